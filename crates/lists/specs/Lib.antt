@@ -1,0 +1,6 @@
+pub mod Choice
+pub mod Keyed
+pub mod Lists
+pub mod Tests
+pub mod ListLaws
+pub mod KeyedLaws

@@ -1,0 +1,1 @@
+// Theory of lists. No code: the definitions and laws stand in specs/.

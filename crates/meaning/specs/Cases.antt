@@ -1,0 +1,138 @@
+-- The fifteen cases of document 01, "Fifteen cases on the edges", as one statement over a list of them, proved by computation; and a second list, of the
+-- document's example list, the slips that it expects, and the ends of the conditions. Assumes nothing.
+use mathlib.Core.Path.{_≡_, refl}
+use mathlib.Core.List.{List, [], _∷_, map}
+use mathlib.Core.Option.{Option, none, some, Option·map}
+use Prim.Native.Nat.{ℕ}
+use lib.ListN.{replicate}
+use Rattle.meaning.specs.Model.{Run, Model, Bytes, tableLimits, _holds_, _inside_, _apartFrom_}
+use Rattle.meaning.specs.Nesting.{nested, depth, storeHolding}
+use Rattle.meaning.specs.Rules.{rule1, rule2, rule3, rule4, rule5, rule6, rule7, sound}
+use Rattle.meaning.specs.Reports.{firstReport}
+use Rattle.meaning.specs.Calls.{Call, start, setContext, totalOf, usedOf, freeOf, find, allocate, makeStore, clear, resize, makeStack, destroyStack, addThread, removeThread, checks, change, allChecks, step}
+
+-- ---- what a case is
+
+-- a call, and what is told of it
+pub record Line : Type 0 where
+  pub call : Call
+  pub report : ℕ
+  pub value : ℕ
+  pub steps : ℕ
+
+infix 70 _answers_ _refusedWith_ _finds_below_
+-- accepted, with this value
+abbrev pub _answers_ : Call → ℕ → Line
+c answers v = record { call = c; report = 0; value = v; steps = 0 }
+
+-- refused, with this report
+abbrev pub _refusedWith_ : Call → ℕ → Line
+c refusedWith r = record { call = c; report = r; value = 0; steps = 0 }
+
+-- accepted, with this store, which is n steps below the root
+abbrev pub _finds_below_ : Call → ℕ → ℕ → Line
+c finds s below n = record { call = c; report = 0; value = s; steps = n }
+
+-- calls one after the other from T0, with what is told of each, and the table after them where the case says it
+pub record Case : Type 0 where
+  pub lines : List Line
+  pub table : Option Model
+
+abbrev pub says : List Line → Case
+says ls = record { lines = ls; table = none }
+
+infix 60 _leaving_
+abbrev pub _leaving_ : List Line → Model → Case
+ls leaving m = record { lines = ls; table = some m }
+
+-- ---- how it comes out
+
+-- the table after some calls
+unfoldable pub after : Model → Bytes → List Call → Model
+after m bs [] = m
+after m bs (c ∷ cs) =
+    let o = step m bs c in
+    after (o .model) (o .bytes) cs
+
+-- the same calls with what is told of each when they are made
+unfoldable pub told : Model → Bytes → List Call → List Line
+told m bs [] = []
+told m bs (c ∷ cs) =
+    let o = step m bs c in
+    record { call = c; report = o .report; value = o .value; steps = o .steps } ∷ told (o .model) (o .bytes) cs
+
+-- a table of zeros
+unfoldable pub zeros : Model
+zeros =
+    let nothing : Run = record { start = 0; length = 0 } in
+    record { storeArea = nothing; stackArea = nothing; stores = []; threads = []; stacks = []; freeRun = nothing; limits = tableLimits }
+
+-- the lent store area
+unfoldable pub lent : Bytes
+lent = replicate 256 77
+
+abbrev pub startAt : ℕ → ℕ → ℕ → ℕ → Call
+startAt a n b k = start (record { start = a; length = n }) (record { start = b; length = k })
+
+-- "T0 is the table after the first two calls."
+unfoldable pub t0 : Model
+t0 = after zeros lent (startAt 4096 256 8192 64 ∷ addThread 1 4096 ∷ [])
+
+-- the case as it comes out: "Each case starts at T0."
+unfoldable pub played : Case → Case
+played c =
+    let cs = map (λ l. l .call) (c .lines) in
+    record { lines = told t0 lent cs; table = Option·map (λ _. after t0 lent cs) (c .table) }
+
+-- ---- the fifteen
+
+unfoldable pub fifteen : List Case
+fifteen =
+    says (allocate 1 236 answers 4116 ∷ freeOf 4096 answers 0 ∷ [])
+    ∷ says (allocate 1 237 refusedWith 1 ∷ [])
+    ∷ says (makeStore 1 224 answers 4112 ∷ freeOf 4096 answers 0 ∷ [])
+    ∷ says (makeStore 1 225 refusedWith 1 ∷ [])
+    ∷ says (allocate 1 4294967295 refusedWith 1 ∷ [])
+    ∷ says (allocate 2 1 refusedWith 12 ∷ [])
+    ∷ says (resize 4096 0 refusedWith 7 ∷ [])
+    ∷ says (makeStore 1 0 answers 4112 ∷ find 4112 finds 4112 below 1 ∷ [])
+    ∷ says (find 4351 finds 4096 below 0 ∷ find 4352 refusedWith 9 ∷ [])
+    ∷ says (makeStore 1 10 answers 4112 ∷ makeStore 1 10 answers 4138 ∷ resize 4138 5 refusedWith 8 ∷ [])
+    ∷ says (makeStore 1 10 answers 4112 ∷ allocate 1 0 answers 4142 ∷ resize 4112 10 refusedWith 13 ∷ [])
+    ∷ (clear 1 answers 0 ∷ [] leaving t0)
+    ∷ says (makeStore 1 40 answers 4112 ∷ addThread 2 4112 answers 0 ∷ clear 1 refusedWith 6 ∷ [])
+    ∷ says (makeStack 8 answers 8192 ∷ makeStack 8 answers 8208 ∷ makeStack 8 answers 8224 ∷ destroyStack 8208 refusedWith 13 ∷ destroyStack 8224 answers 0 ∷ [])
+    ∷ says (startAt 4096 15 8192 64 refusedWith 4 ∷ startAt 4096 16 8192 64 answers 4096 ∷ [])
+    ∷ []
+
+pub fifteen-cases : map played fifteen ≡ fifteen
+unfolding fifteen played told after t0 zeros lent step allChecks checks change firstReport sound rule1 rule2 rule3 rule4 rule5 rule6 rule7 nested depth storeHolding _holds_ _inside_ _apartFrom_
+fifteen-cases = refl
+
+-- ---- slips and ends
+
+unfoldable pub further : List Case
+further =
+    -- the example list of "The bench program"
+    says (startAt 4096 256 8192 64 answers 4096 ∷ addThread 1 4096 answers 0 ∷ allocate 1 20 answers 4116 ∷ makeStore 1 100 answers 4136
+    ∷ usedOf 4096 answers 140 ∷ setContext 1 4136 answers 0 ∷ allocate 1 96 answers 4156 ∷ allocate 1 0 refusedWith 1 ∷ find 4251 finds 4136 below 1
+    ∷ resize 4136 50 refusedWith 2 ∷ clear 1 answers 0 ∷ resize 4136 200 answers 4136 ∷ freeOf 4096 answers 0 ∷ makeStack 24 answers 8192
+    ∷ makeStack 24 answers 8224 ∷ destroyStack 8192 answers 0 ∷ makeStack 25 refusedWith 1 ∷ destroyStack 8224 answers 0 ∷ [])
+    -- a clear takes grandchildren too
+    ∷ (makeStore 1 100 answers 4112 ∷ addThread 2 4112 answers 0 ∷ makeStore 2 20 answers 4128 ∷ find 4130 finds 4128 below 2 ∷ clear 1 refusedWith 6
+    ∷ removeThread 2 answers 0 ∷ clear 1 answers 0 ∷ totalOf 4128 refusedWith 5 ∷ [] leaving t0)
+    -- with an empty free run any stack may go, and the run has two ends
+    ∷ says (makeStack 8 answers 8192 ∷ makeStack 8 answers 8208 ∷ makeStack 8 answers 8224 ∷ makeStack 8 answers 8240 ∷ destroyStack 8208 answers 0
+    ∷ destroyStack 8240 refusedWith 13 ∷ destroyStack 8192 answers 0 ∷ destroyStack 8224 answers 0 ∷ makeStack 40 answers 8192 ∷ [])
+    -- a resize counts the old total, to the byte
+    ∷ says (makeStore 1 100 answers 4112 ∷ resize 4112 225 refusedWith 1 ∷ resize 4112 224 answers 4112 ∷ freeOf 4096 answers 0 ∷ resize 4112 0 answers 4112
+    ∷ freeOf 4096 answers 224 ∷ [])
+    -- a stack takes the free run to the byte
+    ∷ says (makeStack 57 refusedWith 1 ∷ makeStack 56 answers 8192 ∷ [])
+    -- the root's total begins at its first address
+    ∷ says (find 4095 refusedWith 9 ∷ find 4096 finds 4096 below 0 ∷ [])
+    ∷ []
+
+pub further-cases : map played further ≡ further
+unfolding further played told after t0 zeros lent step allChecks checks change firstReport sound rule1 rule2 rule3 rule4 rule5 rule6 rule7 nested depth storeHolding _holds_ _inside_ _apartFrom_
+further-cases = refl

@@ -1,0 +1,58 @@
+-- The bytes of call 8: the block's become 0, and no other changes. Assumes nothing.
+use mathlib.Core.List.{[], _∷_}
+use mathlib.Core.Path.{_≡_, refl, ap}
+use Prim.Native.Nat.{ℕ, zero, suc, _+_, _-_, _<_, _≤_}
+use native.Mathlib.Omega.{arith}
+use lib.ListN.{length, getD}
+use Rattle.names.specs.Overhead.{blockTaken}
+use Rattle.meaning.specs.Model.{Model, Bytes, freePart}
+use Rattle.meaning.specs.Reports.{contextStore}
+use Rattle.meaning.specs.Changes.{zeroed}
+use Rattle.meaning.specs.Calls.{allocate, change, step}
+use Rattle.meaning.specs.Laws.Step.{step-accepted}
+
+pub zeroed-length : (o n : ℕ) (bs : Bytes) → length (zeroed o n bs) ≡ length bs
+zeroed-length o n [] = refl
+zeroed-length zero zero (b ∷ bs) = refl
+zeroed-length zero (suc n) (b ∷ bs) = ap suc (zeroed-length zero n bs)
+zeroed-length (suc o) n (b ∷ bs) = ap suc (zeroed-length o n bs)
+
+pub zeroed-before : (o n : ℕ) (bs : Bytes) (i : ℕ) → i < o → getD (zeroed o n bs) i 0 ≡ getD bs i 0
+zeroed-before o n [] i h = refl
+zeroed-before zero n (b ∷ bs) i h = absurd (omega arith)
+zeroed-before (suc o) n (b ∷ bs) zero h = refl
+zeroed-before (suc o) n (b ∷ bs) (suc i) h = zeroed-before o n bs i (omega arith)
+
+pub zeroed-behind : (o n : ℕ) (bs : Bytes) (i : ℕ) → o + n ≤ i → getD (zeroed o n bs) i 0 ≡ getD bs i 0
+zeroed-behind o n [] i h = refl
+zeroed-behind zero zero (b ∷ bs) i h = refl
+zeroed-behind zero (suc n) (b ∷ bs) zero h = absurd (omega arith)
+zeroed-behind zero (suc n) (b ∷ bs) (suc i) h = zeroed-behind zero n bs i (omega arith)
+zeroed-behind (suc o) n (b ∷ bs) zero h = absurd (omega arith)
+zeroed-behind (suc o) n (b ∷ bs) (suc i) h = zeroed-behind o n bs i (omega arith)
+
+pub zeroed-inside : (o n : ℕ) (bs : Bytes) (i : ℕ) → o ≤ i → i < o + n → getD (zeroed o n bs) i 0 ≡ 0
+zeroed-inside o n [] i l h = refl
+zeroed-inside zero zero (b ∷ bs) i l h = absurd (omega arith)
+zeroed-inside zero (suc n) (b ∷ bs) zero l h = refl
+zeroed-inside zero (suc n) (b ∷ bs) (suc i) l h = zeroed-inside zero n bs i (omega arith) (omega arith)
+zeroed-inside (suc o) n (b ∷ bs) zero l h = absurd (omega arith)
+zeroed-inside (suc o) n (b ∷ bs) (suc i) l h = zeroed-inside o n bs i (omega arith) (omega arith)
+
+-- the offset in the store area of the block that a thread's next allocation takes
+abbrev pub blockOffset : Model → ℕ → ℕ
+blockOffset m t = freePart (contextStore m t) .start - m .storeArea .start
+
+-- The bytes after an accepted allocation, against those before it: as many, all of the block 0, all others the same.
+pub record BlockZeroed (o n : ℕ) (before after : Bytes) : Type 0 where
+  pub long : length after ≡ length before
+  pub low : (i : ℕ) → i < o → getD after i 0 ≡ getD before i 0
+  pub block : (i : ℕ) → o ≤ i → i < o + n → getD after i 0 ≡ 0
+  pub high : (i : ℕ) → o + n ≤ i → getD after i 0 ≡ getD before i 0
+
+pub allocate-bytes : (m : Model) (bs : Bytes) (t n : ℕ) → step m bs (allocate t n) .report ≡ 0
+    → BlockZeroed (blockOffset m t) (blockTaken n) bs (step m bs (allocate t n) .bytes)
+unfolding change
+allocate-bytes m bs t n h =
+    rw (step-accepted m bs (allocate t n) h)
+    (record { long = zeroed-length _ _ bs; low = zeroed-before _ _ bs; block = zeroed-inside _ _ bs; high = zeroed-behind _ _ bs })

@@ -1,0 +1,10 @@
+pub mod Model
+pub mod Nesting
+pub mod Rules
+pub mod Facts
+pub mod Reports
+pub mod Changes
+pub mod Calls
+pub mod RunQuestion
+pub mod Cases
+pub mod Laws

@@ -1,0 +1,1 @@
+// The meaning of the manager. No code: the definitions and their theorems stand in specs/.

@@ -1,0 +1,10 @@
+// Store, stack and thread identifiers are three kinds of name: one is never accepted where another is meant.
+
+// A store's identifier is its first address.
+pub struct StoreId(pub u32);
+
+// A stack's identifier is its first address.
+pub struct StackId(pub u32);
+
+// A thread's identifier is any number.
+pub struct ThreadId(pub u32);

@@ -1,0 +1,47 @@
+// The report of a call. The numbers follow the requirements report's order; 3 is not used.
+ghost use mathlib.Core.Path.{_≡_};
+ghost use Rattle.names.specs.Numbers.{numberOf};
+
+pub enum Report {
+    Accepted,
+    OutOfMemory,
+    NotEmpty,
+    SizeTooSmall,
+    NoSuchStore,
+    StoreInUse,
+    RootResize,
+    NotOnlyChild,
+    UnknownAddress,
+    NoSuchStack,
+    CannotShrink,
+    NoThreadContext,
+    Fragmentation,
+    TableFull,
+    BadArea,
+    UnsoundTable,
+}
+
+impl Report {
+    pub fn number(self) -> u32
+        ensures { λ r. ⌜ r ≡ numberOf self ⌝ }
+    {
+        match self {
+            Report::Accepted => 0,
+            Report::OutOfMemory => 1,
+            Report::NotEmpty => 2,
+            Report::SizeTooSmall => 4,
+            Report::NoSuchStore => 5,
+            Report::StoreInUse => 6,
+            Report::RootResize => 7,
+            Report::NotOnlyChild => 8,
+            Report::UnknownAddress => 9,
+            Report::NoSuchStack => 10,
+            Report::CannotShrink => 11,
+            Report::NoThreadContext => 12,
+            Report::Fragmentation => 13,
+            Report::TableFull => 14,
+            Report::BadArea => 15,
+            Report::UnsoundTable => 16,
+        }
+    }
+}
