@@ -133,7 +133,7 @@ change m bs (removeThread t) = accepted 0 (withThreads m (remove threadName t (m
 
 -- ---- a call whole
 
--- "Every call but 0 first checks soundness (16)."
+-- "Every call but 0 first checks soundness (16)": rules 1 to 7 here, and rule 8 where the table stands before its model.
 unfoldable pub allChecks : Model → Bytes → Call → List Check
 allChecks m bs c = 16 when (not (eqb (code c) 0) && not (sound m)) ∷ checks m bs c
 

@@ -1,5 +1,5 @@
--- The fifteen cases of document 01, "Fifteen cases on the edges", as one statement over a list of them, proved by computation; and a second list, of the
--- document's example list, the slips that it expects, and the ends of the conditions. Assumes nothing.
+-- The fifteen cases of document 01, "Fifteen cases on the edges", as one statement over a list of them, proved by computation; and a second list: the
+-- document's example list, the slips that it expects, and edges that the fifteen leave out. Assumes nothing.
 use mathlib.Core.Path.{_≡_, refl}
 use mathlib.Core.List.{List, [], _∷_, map}
 use mathlib.Core.Option.{Option, none, some, Option·map}
@@ -9,7 +9,7 @@ use Rattle.meaning.specs.Model.{Run, Model, Bytes, tableLimits, _holds_,
 use Rattle.meaning.specs.Nesting.{nested, depth, storeHolding}
 use Rattle.meaning.specs.Rules.{rule1, rule2, rule3, rule4, rule5, rule6, rule7, sound}
 use Rattle.meaning.specs.Reports.{firstReport}
-use Rattle.meaning.specs.Calls.{Call, start, setContext, totalOf, usedOf, freeOf, find, allocate, makeStore, clear, resize, makeStack, destroyStack, addThread, removeThread, checks, change, allChecks, step}
+use Rattle.meaning.specs.Calls.{Call, start, root, contextOf, setContext, totalOf, usedOf, freeOf, find, allocate, makeStore, clear, resize, makeStack, destroyStack, addThread, removeThread, checks, change, allChecks, step}
 
 -- ---- what a case is
 
@@ -124,13 +124,17 @@ further =
     -- with an empty free run any stack may go, and the run has two ends
     ∷ says (makeStack 8 answers 8192 ∷ makeStack 8 answers 8208 ∷ makeStack 8 answers 8224 ∷ makeStack 8 answers 8240 ∷ destroyStack 8208 answers 0
     ∷ destroyStack 8240 refusedWith 13 ∷ destroyStack 8192 answers 0 ∷ destroyStack 8224 answers 0 ∷ makeStack 40 answers 8192 ∷ [])
+    -- a stack that takes the last free byte leaves the empty run at the area's end, or the table would be unsound
+    ∷ says (makeStack 8 answers 8192 ∷ makeStack 40 answers 8208 ∷ destroyStack 8192 answers 0 ∷ makeStack 8 answers 8192 ∷ root answers 4096 ∷ [])
     -- a resize counts the old total, to the byte
     ∷ says (makeStore 1 100 answers 4112 ∷ resize 4112 225 refusedWith 1 ∷ resize 4112 224 answers 4112 ∷ freeOf 4096 answers 0 ∷ resize 4112 0 answers 4112
     ∷ freeOf 4096 answers 224 ∷ [])
     -- a stack takes the free run to the byte
     ∷ says (makeStack 57 refusedWith 1 ∷ makeStack 56 answers 8192 ∷ [])
-    -- the root's total begins at its first address
-    ∷ says (find 4095 refusedWith 9 ∷ find 4096 finds 4096 below 0 ∷ [])
+    -- the first address of the root's total, and of the stack area behind the store area
+    ∷ says (find 4095 refusedWith 9 ∷ find 4096 finds 4096 below 0 ∷ startAt 4096 256 4351 64 refusedWith 15 ∷ startAt 4096 256 4352 64 answers 4096 ∷ [])
+    -- names that are not listed
+    ∷ says (contextOf 2 refusedWith 12 ∷ setContext 2 4097 refusedWith 12 ∷ setContext 1 4097 refusedWith 5 ∷ destroyStack 8192 refusedWith 10 ∷ addThread 2 4097 refusedWith 5 ∷ removeThread 2 answers 0 ∷ [])
     ∷ []
 
 pub further-cases : map played further ≡ further

@@ -47,7 +47,7 @@ pub record Stack : Type 0 where
   pub start : ℕ
   pub total : ℕ
 
--- how many lines a table has
+-- how many lines a table has: "At most 64 stores, 32 threads, 32 stacks." A table of this size has `tableLimits`; no call changes them.
 pub record Limits : Type 0 where
   pub stores : ℕ
   pub threads : ℕ
@@ -67,7 +67,6 @@ pub record Model : Type 0 where
 abbrev pub Bytes : Type 0
 Bytes = List ℕ
 
--- "At most 64 stores, 32 threads, 32 stacks."
 abbrev pub tableLimits : Limits
 tableLimits = record { stores = 64; threads = 32; stacks = 32 }
 
@@ -115,14 +114,14 @@ noSuchStore s = record { start = s; total = 0; used = 0; parent = s }
 abbrev pub storeOf : List Store → ℕ → Store
 storeOf ss s = at storeName noSuchStore ss s
 
--- the context of a listed thread
+-- the context of a listed thread; 0 for one that is not listed
 abbrev pub noSuchThread : ℕ → Thread
 noSuchThread t = record { identifier = t; context = 0 }
 
 abbrev pub contextIn : List Thread → ℕ → ℕ
 contextIn ts t = at threadName noSuchThread ts t .context
 
--- the listed stack with this identifier
+-- the listed stack with this identifier; an empty one where none is listed
 abbrev pub noSuchStack : ℕ → Stack
 noSuchStack k = record { start = k; total = 0 }
 

@@ -24,7 +24,7 @@ pub data Nested (ss : List Store) : ℕ → ℕ → Type 0 where
 -- x is n parent-to-child steps from the root
 pub data Below (ss : List Store) : ℕ → ℕ → Type 0 where
   top : {x n : ℕ} → x ≡ rootOf ss → n ≡ 0 → Below ss x n
-  step : {x y k n : ℕ} → Child ss x y → Below ss y k → n ≡ k + 1 → Below ss x n
+  under : {x y k n : ℕ} → Child ss x y → Below ss y k → n ≡ k + 1 → Below ss x n
 
 -- ---- the same, computed
 
@@ -32,7 +32,7 @@ pub data Below (ss : List Store) : ℕ → ℕ → Type 0 where
 abbrev pub parentIn : List Store → ℕ → ℕ
 parentIn ss s = storeOf ss s .parent
 
--- Up the parent links from x, as long as they fall, s is met. A link that falls cannot be taken more often than the first number says.
+-- Up the parent links from x, each to a lower store, s is met. The first number only bounds the steps: x itself is enough, since each goes lower.
 abbrev pub climbs : (ℕ → ℕ) → ℕ → ℕ → ℕ → Bool
 climbs parent zero x s = false
 climbs parent (suc n) x s = let above = climbs parent n (parent x) s in ltb (parent x) x && (eqb (parent x) s || above)
@@ -41,7 +41,7 @@ climbs parent (suc n) x s = let above = climbs parent n (parent x) s in ltb (par
 unfoldable pub nested : List Store → ℕ → ℕ → Bool
 nested ss x s = climbs (parentIn ss) x x s
 
--- the number of links from x up, as long as they fall
+-- the number of links from x up, each to a lower store; bounded in the same way
 abbrev pub links : (ℕ → ℕ) → ℕ → ℕ → ℕ
 links parent zero x = 0
 links parent (suc n) x = let above = suc (links parent n (parent x)) in if ltb (parent x) x then above else 0

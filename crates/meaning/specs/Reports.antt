@@ -1,4 +1,5 @@
--- When each report number is given: document 01, "Report numbers". A condition stands under its number; 16 is `sound` of Rules.antt, and 3 is not used.
+-- When each report number is given: document 01, "Report numbers". A condition stands under its number; 16 is `sound` of Rules.antt with
+-- the table's rule 8, and 3 is not used.
 -- Assumes nothing.
 use mathlib.Core.Bool.{Bool, not, _&&_, _||_}
 use mathlib.Core.List.{List, [], _∷_}

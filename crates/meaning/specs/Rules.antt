@@ -24,7 +24,8 @@ areasSound stores stacks =
 unfoldable pub rule1 : Model → Bool
 rule1 m = areasSound (m .storeArea) (m .stackArea)
 
--- 2. The first store is the root: start and total are those of the store area, its parent is itself.
+-- 2. The first store is the root: start and total are those of the store area, its parent is itself. (That it is nobody's child and nested in nothing
+-- is in `Child` of Nesting.antt: children are among the other stores.)
 abbrev pub rootSound : Run → List Store → Bool
 rootSound area [] = false
 rootSound area (r ∷ ss) = eqb (r .start) (area .start) && eqb (r .total) (area .length) && eqb (r .parent) (r .start)
@@ -39,7 +40,7 @@ hangs ss s = listed ss (s .parent) && ltb (s .parent) (s .start) && leb storeOve
 unfoldable pub rule3 : Model → Bool
 rule3 m = rising storeName (m .stores) && all (hangs (m .stores)) (rest (m .stores))
 
--- 4. A store's used is at most total − 16. Every child's total lies in its parent's used part, and two children of one parent share no address.
+-- 4. A store's used is at most total − 16. (Its used part and its free part are in Model.antt.) Every child's total lies in its parent's used part, and two children of one parent share no address.
 abbrev pub fits : Store → Bool
 fits s = leb (s .used + storeOverhead) (s .total)
 

@@ -31,13 +31,13 @@ zeroed-behind zero (suc n) (b ∷ bs) (suc i) h = zeroed-behind zero n bs i (ome
 zeroed-behind (suc o) n (b ∷ bs) zero h = absurd (omega arith)
 zeroed-behind (suc o) n (b ∷ bs) (suc i) h = zeroed-behind o n bs i (omega arith)
 
-pub zeroed-inside : (o n : ℕ) (bs : Bytes) (i : ℕ) → o ≤ i → i < o + n → getD (zeroed o n bs) i 0 ≡ 0
-zeroed-inside o n [] i l h = refl
-zeroed-inside zero zero (b ∷ bs) i l h = absurd (omega arith)
-zeroed-inside zero (suc n) (b ∷ bs) zero l h = refl
-zeroed-inside zero (suc n) (b ∷ bs) (suc i) l h = zeroed-inside zero n bs i (omega arith) (omega arith)
-zeroed-inside (suc o) n (b ∷ bs) zero l h = absurd (omega arith)
-zeroed-inside (suc o) n (b ∷ bs) (suc i) l h = zeroed-inside o n bs i (omega arith) (omega arith)
+pub zeroed-inside : (o n : ℕ) (bs : Bytes) (i d : ℕ) → o ≤ i → i < o + n → i < length bs → getD (zeroed o n bs) i d ≡ 0
+zeroed-inside o n [] i d l h k = absurd (omega arith)
+zeroed-inside zero zero (b ∷ bs) i d l h k = absurd (omega arith)
+zeroed-inside zero (suc n) (b ∷ bs) zero d l h k = refl
+zeroed-inside zero (suc n) (b ∷ bs) (suc i) d l h k = zeroed-inside zero n bs i d (omega arith) (omega arith) (omega arith)
+zeroed-inside (suc o) n (b ∷ bs) zero d l h k = absurd (omega arith)
+zeroed-inside (suc o) n (b ∷ bs) (suc i) d l h k = zeroed-inside o n bs i d (omega arith) (omega arith) (omega arith)
 
 -- the offset in the store area of the block that a thread's next allocation takes
 abbrev pub blockOffset : Model → ℕ → ℕ
@@ -47,7 +47,7 @@ blockOffset m t = freePart (contextStore m t) .start - m .storeArea .start
 pub record BlockZeroed (o n : ℕ) (before after : Bytes) : Type 0 where
   pub long : length after ≡ length before
   pub low : (i : ℕ) → i < o → getD after i 0 ≡ getD before i 0
-  pub block : (i : ℕ) → o ≤ i → i < o + n → getD after i 0 ≡ 0
+  pub block : (i d : ℕ) → o ≤ i → i < o + n → i < length before → getD after i d ≡ 0
   pub high : (i : ℕ) → o + n ≤ i → getD after i 0 ≡ getD before i 0
 
 pub allocate-bytes : (m : Model) (bs : Bytes) (t n : ℕ) → step m bs (allocate t n) .report ≡ 0

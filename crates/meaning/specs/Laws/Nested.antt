@@ -12,7 +12,7 @@ use Rattle.lists.specs.Lists.{_∈_, rest}
 use Rattle.lists.specs.Tests.{tested, never, and-iff, unless-iff}
 use Rattle.lists.specs.KeyedLaws.{has-iff, member-has, at-member, at-key, at-none, member-at}
 use Rattle.meaning.specs.Model.{Store, Model, storeName, listed, noSuchStore, storeOf, rootOf}
-use Rattle.meaning.specs.Nesting.{Child, Nested, child, inChild, Below, top, step, parentIn, climbs, nested, links, depth}
+use Rattle.meaning.specs.Nesting.{Child, Nested, child, inChild, Below, top, under, parentIn, climbs, nested, links, depth}
 use Rattle.meaning.specs.Facts.{Sound}
 
 -- ---- links of any kind
@@ -148,14 +148,14 @@ module _ (m : Model) (sound : Sound m) where
       (λ i.
       let hangs = sound .rule3 .others (storeOf ss x) i in
       let l : parentIn ss x < x = omega (arith, hangs .lower, named x) in
-      step (storeOf ss x, i, named x, refl) (below-depth n (parentIn ss x) (omega arith) (has-iff storeName ss (parentIn ss x) .1 (hangs .listed))) (links-up (parentIn ss) x l))
+      under (storeOf ss x, i, named x, refl) (below-depth n (parentIn ss x) (omega arith) (has-iff storeName ss (parentIn ss x) .1 (hangs .listed))) (links-up (parentIn ss) x l))
       (root-or-other h)
 
   below-counts : {x n : ℕ} → Below ss x n → (listed ss x ≡ true) × (links (parentIn ss) x x ≡ n)
   below-counts {x} {n} (top e z) =
       let own = ap (parentIn ss) e ∙ root-own-parent in
       (rw e root-listed, links-top (parentIn ss) x (omega arith) ∙ sym z)
-  below-counts {x} {n} (step {y = y} {k = k} c b q) =
+  below-counts {x} {n} (under {y = y} {k = k} c b q) =
       let l = child-link c in
       let i = below-counts b in
       let u = links-up (parentIn ss) x (omega arith) in
