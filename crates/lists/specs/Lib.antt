@@ -4,3 +4,5 @@ pub mod Lists
 pub mod Tests
 pub mod ListLaws
 pub mod KeyedLaws
+pub mod ListChanges
+pub mod KeyedChanges

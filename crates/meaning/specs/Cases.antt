@@ -7,7 +7,7 @@ use Prim.Native.Nat.{ℕ}
 use lib.ListN.{replicate}
 use Rattle.meaning.specs.Model.{Run, Model, Bytes, tableLimits, _holds_, _inside_, _apartFrom_}
 use Rattle.meaning.specs.Nesting.{nested, depth, storeHolding}
-use Rattle.meaning.specs.Rules.{rule1, rule2, rule3, rule4, rule5, rule6, rule7, sound}
+use Rattle.meaning.specs.Rules.{areasSound, rootSound, storesHang, storesFit, threadsPlaced, stacksFit, runSound, sound}
 use Rattle.meaning.specs.Reports.{firstReport}
 use Rattle.meaning.specs.Calls.{Call, start, root, contextOf, setContext, totalOf, usedOf, freeOf, find, allocate, makeStore, clear, resize, makeStack, destroyStack, addThread, removeThread, checks, change, allChecks, step}
 
@@ -106,7 +106,7 @@ fifteen =
     ∷ []
 
 pub fifteen-cases : map played fifteen ≡ fifteen
-unfolding fifteen played told after t0 zeros lent step allChecks checks change firstReport sound rule1 rule2 rule3 rule4 rule5 rule6 rule7 nested depth storeHolding _holds_ _inside_ _apartFrom_
+unfolding fifteen played told after t0 zeros lent step allChecks checks change firstReport sound areasSound rootSound storesHang storesFit threadsPlaced stacksFit runSound nested depth storeHolding _holds_ _inside_ _apartFrom_
 fifteen-cases = refl
 
 -- ---- slips and ends
@@ -138,5 +138,5 @@ further =
     ∷ []
 
 pub further-cases : map played further ≡ further
-unfolding further played told after t0 zeros lent step allChecks checks change firstReport sound rule1 rule2 rule3 rule4 rule5 rule6 rule7 nested depth storeHolding _holds_ _inside_ _apartFrom_
+unfolding further played told after t0 zeros lent step allChecks checks change firstReport sound areasSound rootSound storesHang storesFit threadsPlaced stacksFit runSound nested depth storeHolding _holds_ _inside_ _apartFrom_
 further-cases = refl

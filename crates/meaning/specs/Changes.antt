@@ -12,11 +12,17 @@ use Rattle.meaning.specs.Nesting.{nested}
 -- ---- stores
 
 -- another used, or another total, for the store c
+abbrev pub lineWithUsed : ℕ → ℕ → Store → Store
+lineWithUsed c u s = record { start = s .start; total = s .total; used = if eqb (s .start) c then u else s .used; parent = s .parent }
+
 abbrev pub withUsed : ℕ → ℕ → List Store → List Store
-withUsed c u ss = map (λ s. record { start = s .start; total = s .total; used = if eqb (s .start) c then u else s .used; parent = s .parent }) ss
+withUsed c u ss = map (lineWithUsed c u) ss
+
+abbrev pub lineWithTotal : ℕ → ℕ → Store → Store
+lineWithTotal c n s = record { start = s .start; total = if eqb (s .start) c then n else s .total; used = s .used; parent = s .parent }
 
 abbrev pub withTotal : ℕ → ℕ → List Store → List Store
-withTotal c n ss = map (λ s. record { start = s .start; total = if eqb (s .start) c then n else s .total; used = s .used; parent = s .parent }) ss
+withTotal c n ss = map (lineWithTotal c n) ss
 
 -- "all stores nested in the context go, its used becomes 0"
 abbrev pub cleared : ℕ → List Store → List Store
@@ -25,8 +31,11 @@ cleared c ss = withUsed c 0 (keep (λ s. not (nested ss (s .start) c)) ss)
 -- ---- threads
 
 -- "only that context changes"
+abbrev pub lineWithContext : ℕ → ℕ → Thread → Thread
+lineWithContext t c x = record { identifier = x .identifier; context = if eqb (x .identifier) t then c else x .context }
+
 abbrev pub withContext : ℕ → ℕ → List Thread → List Thread
-withContext t c ts = map (λ x. record { identifier = x .identifier; context = if eqb (x .identifier) t then c else x .context }) ts
+withContext t c ts = map (lineWithContext t c) ts
 
 -- a new thread with its context; "a listed thread gets the new context"
 abbrev pub placed : ℕ → ℕ → List Thread → List Thread

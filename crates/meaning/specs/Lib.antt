@@ -1,4 +1,5 @@
 pub mod Model
+pub mod Reading
 pub mod Nesting
 pub mod Rules
 pub mod Facts

@@ -11,7 +11,7 @@ use Rattle.lists.specs.Tests.{never, reflect}
 use Rattle.lists.specs.ListLaws.{all-iff, allTwo-iff}
 use Rattle.lists.specs.KeyedLaws.{has-iff, rising-iff}
 use Rattle.meaning.specs.Model.{Run, Store, Stack, Model, _holds_, _inside_, _apartFrom_, whole, stackRun}
-use Rattle.meaning.specs.Rules.{rootSound, siblingsApart, rule1, rule2, rule3, rule4, rule5, rule6, rule7, sound}
+use Rattle.meaning.specs.Rules.{areasSound, rootSound, storesHang, siblingsApart, storesFit, threadsPlaced, stacksFit, runSound, rule1, rule2, rule3, rule4, rule5, rule6, rule7, sound}
 use Rattle.meaning.specs.Facts.{_Holds_, _Inside_, _ApartFrom_, Rule1, Rule2, Rule3, Rule4, Rule5, Rule6, Rule7, Sound}
 
 pub holds-iff : (r : Run) (a : ℕ) → ((r holds a) ≡ true) ↔ r Holds a
@@ -37,7 +37,7 @@ apart-iff r s = (
 pub ruleset asks = (holds-iff, inside-iff, apart-iff, all-iff, has-iff, rising-iff, reflect)
 
 pub rule1-agrees : (m : Model) → (rule1 m ≡ true) ↔ Rule1 m
-unfolding rule1
+unfolding areasSound
 rule1-agrees m = (
   λ h. let f = simp asks at h in
       record { storesLeast = f .0 .0 .0 .0 .0; storesMost = f .0 .0 .0 .0 .1; stacksMost = f .0 .0 .0 .1; storesEnd = f .0 .0 .1; stacksEnd = f .0 .1; apart = f .1 },
@@ -45,7 +45,7 @@ rule1-agrees m = (
 )
 
 pub rule2-agrees : (m : Model) → (rule2 m ≡ true) ↔ Rule2 m
-unfolding rule2
+unfolding rootSound
 rule2-agrees m = first-is (m .stores) refl
   where
     first-is : (ss : List Store) → m .stores ≡ ss → (rootSound (m .storeArea) ss ≡ true) ↔ Rule2 m
@@ -56,7 +56,7 @@ rule2-agrees m = first-is (m .stores) refl
     )
 
 pub rule3-agrees : (m : Model) → (rule3 m ≡ true) ↔ Rule3 m
-unfolding rule3
+unfolding storesHang
 rule3-agrees m = (
   λ h. let f = simp asks at h in
       record { rises = f .0; others = λ s i. let g = f .1 s i in record { listed = g .0 .0; lower = g .0 .1; least = g .1 } },
@@ -70,7 +70,7 @@ siblings-all : (ss : List Store) → (allTwo siblingsApart ss ≡ true) ↔ AllT
 siblings-all ss = allTwo-iff siblingsApart _ siblings-iff ss
 
 pub rule4-agrees : (m : Model) → (rule4 m ≡ true) ↔ Rule4 m
-unfolding rule4
+unfolding storesFit
 rule4-agrees m = (
   λ h. let f = simp (asks, siblings-all) at h in
       record { fits = f .0 .0; inside = λ p c i j. f .0 .1 p i c j; apart = f .1 },
@@ -78,7 +78,7 @@ rule4-agrees m = (
 )
 
 pub rule5-agrees : (m : Model) → (rule5 m ≡ true) ↔ Rule5 m
-unfolding rule5
+unfolding threadsPlaced
 rule5-agrees m = (
   λ h. let f = simp asks at h in record { rises = f .0; placed = f .1 },
   λ r. simp asks (r .rises, r .placed),
@@ -88,7 +88,7 @@ stacks-iff : (ks : List Stack) → (allTwo (λ k l. stackRun k apartFrom stackRu
 stacks-iff ks = allTwo-iff _ _ (λ k l. apart-iff (stackRun k) (stackRun l)) ks
 
 pub rule6-agrees : (m : Model) → (rule6 m ≡ true) ↔ Rule6 m
-unfolding rule6
+unfolding stacksFit
 rule6-agrees m = (
   λ h. let f = simp (asks, stacks-iff) at h in
       record {
@@ -102,7 +102,7 @@ rule6-agrees m = (
 )
 
 pub rule7-agrees : (m : Model) → (rule7 m ≡ true) ↔ Rule7 m
-unfolding rule7
+unfolding runSound
 rule7-agrees m = (
   λ h. let f = simp asks at h in record { inside = f .0 .0; makes = f .0 .1; empty = f .1 },
   λ r. simp asks ((r .inside, r .makes), r .empty),

@@ -1,0 +1,17 @@
+pub mod Frames
+pub mod ByName
+pub mod Nesting
+pub mod Geometry
+pub mod Depth
+pub mod StoreChanges
+pub mod StoreRules
+pub mod StoreCalls
+pub mod ThreadCalls
+pub mod StackCalls
+pub mod Start
+pub mod AnyStep
+pub mod EachCall
+pub mod SoundStaysSound
+pub mod Touched
+pub mod Stays
+pub mod Fits

@@ -1,0 +1,173 @@
+-- What inserting, changing and keeping elements does to a list with keys: which keys it has, what they find, and that it rises. Assumes nothing.
+use mathlib.Core.Bool.{Bool, true, false, not, _&&_, _||_}
+use mathlib.Core.List.{List, [], _∷_, map, List·Memᴰ·head as here, List·Memᴰ·tail as there, List·Memᴰ·not-nil as nowhere, List·Memᴰ·cases-cons as cases-cons}
+use mathlib.Core.Logic.{_⊎_, inl, inr, ⊎-elim}
+use mathlib.Core.Path.{_≡_, refl, sym, _∙_, ap}
+use Prim.Native.Nat.{ℕ, _+_, _<_, _≤_}
+use native.Mathlib.Decide.{ℕ-discrete}
+use native.Mathlib.Omega.{arith}
+use lib.Dec.{ltb, eqb}
+use lib.ListN.{length}
+use borrow.Author.Tests.{ltb-true, ltb-false, eqb-true, eq-eqb, ne-eqb}
+use Rattle.lists.specs.Lists.{_∈_, AllTwo, keep, sum}
+use Rattle.lists.specs.Keyed.{has, at, insert, remove, Rising}
+use Rattle.lists.specs.Tests.{tested, never}
+use Rattle.lists.specs.KeyedLaws.{member-has}
+use Rattle.lists.specs.ListChanges.{keep-all, two-map}
+
+module _ {A : Type 0} (key : A → ℕ) where
+  -- ---- what holds of every two, by key
+
+  pub two-by-key : (R : A → A → Type 0) (l : List A) → Rising key l → AllTwo R l → {x y : A} → x ∈ l → y ∈ l → key x < key y → R x y
+  two-by-key R (z ∷ l) r t {x} {y} (here e) (here f) k = let g = ap key e in let h = ap key f in absurd (omega arith)
+  two-by-key R (z ∷ l) r t {x} {y} (here e) (there n) k = rw e (t .0 y n)
+  two-by-key R (z ∷ l) r t {x} {y} (there m) (here f) k = let g = ap key f in let b = r .0 x m in absurd (omega arith)
+  two-by-key R (z ∷ l) r t {x} {y} (there m) (there n) k = two-by-key R l (r .1) (t .1) m n k
+
+  pub by-key-two : (R : A → A → Type 0) (l : List A) → Rising key l → ((x y : A) → x ∈ l → y ∈ l → key x < key y → R x y) → AllTwo R l
+  by-key-two R [] r h = tt
+  by-key-two R (z ∷ l) r h = ((λ y m. h z y (here refl) (there m) (r .0 y m)), by-key-two R l (r .1) (λ x y m n. h x y (there m) (there n)))
+
+  -- ---- insert
+
+  pub insert-member : (n : A) (l : List A) {x : A} → x ∈ insert key n l → (x ≡ n) ⊎ (x ∈ l)
+  insert-member n [] m = cases-cons m
+  insert-member n (y ∷ l) m = elim (tested (ltb (key n) (key y))) [
+    | inl e ↦ cases-cons (rw e at m)
+    | inr e ↦ ⊎-elim (λ q. inr (here q)) (λ t. ⊎-elim (λ q. inl q) (λ u. inr (there u)) (insert-member n l t)) (cases-cons (rw e at m))
+  ]
+
+  pub insert-length : (n : A) (l : List A) → length (insert key n l) ≡ length l + 1
+  insert-length n [] = refl
+  insert-length n (y ∷ l) = let i = insert-length n l in elim (tested (ltb (key n) (key y))) [
+    | inl e ↦ rw e (omega arith)
+    | inr e ↦ rw e (omega arith)
+  ]
+
+  pub sum-insert : (f : A → ℕ) (n : A) (l : List A) → sum f (insert key n l) ≡ f n + sum f l
+  sum-insert f n [] = refl
+  sum-insert f n (y ∷ l) = let i = sum-insert f n l in elim (tested (ltb (key n) (key y))) [
+    | inl e ↦ rw e refl
+    | inr e ↦ rw e (omega arith)
+  ]
+
+  pub has-insert : (n : A) (l : List A) (k : ℕ) → has key (insert key n l) k ≡ (eqb (key n) k || has key l k)
+  has-insert n [] k = refl
+  has-insert n (y ∷ l) k = elim (tested (ltb (key n) (key y))) [
+    | inl e ↦ rw e refl
+    | inr e ↦ elim (tested (eqb (key n) k)) [
+      | inl f ↦ elim (tested (eqb (key y) k)) [
+        | inl g ↦ rw (e, f, g)
+        | inr g ↦ rw (e, f, g) (rw f at (has-insert n l k))
+      ]
+      | inr f ↦ rw (e, f, has-insert n l k, f)
+    ]
+  ]
+
+  pub at-insert-new : (none : ℕ → A) (n : A) (l : List A) → has key l (key n) ≡ false → at key none (insert key n l) (key n) ≡ n
+  at-insert-new none n [] h = rw (eq-eqb (key n) (key n) refl)
+  at-insert-new none n (y ∷ l) h = elim (tested (ltb (key n) (key y))) [
+    | inl e ↦ rw (e, eq-eqb (key n) (key n) refl)
+    | inr e ↦ elim (tested (eqb (key y) (key n))) [
+      | inl f ↦ never true refl (rw f at h)
+      | inr f ↦ rw (e, f) (at-insert-new none n l (rw f at h))
+    ]
+  ]
+
+  pub at-insert-old : (none : ℕ → A) (n : A) (l : List A) (k : ℕ) → (key n ≡ k → ⊥) → at key none (insert key n l) k ≡ at key none l k
+  at-insert-old none n [] k h = rw (ne-eqb (key n) k h)
+  at-insert-old none n (y ∷ l) k h = elim (tested (ltb (key n) (key y))) [
+    | inl e ↦ rw (e, ne-eqb (key n) k h)
+    | inr e ↦ rw (e, at-insert-old none n l k h)
+  ]
+
+  -- what holds of every two in a rising list, and of the new element with each, holds after it is inserted
+  pub two-insert : (R : A → A → Type 0) (n : A) (l : List A) → Rising key l → ((y : A) → y ∈ l → key n < key y → R n y)
+      → ((y : A) → y ∈ l → key y ≤ key n → R y n) → AllTwo R l → AllTwo R (insert key n l)
+  two-insert R n [] r up low t = ((λ y m. absurd (nowhere m)), tt)
+  two-insert R n (x ∷ l) r up low t = elim (tested (ltb (key n) (key x))) [
+    | inl e ↦
+        let b = ltb-true (key n) (key x) e in
+        rw e ((λ y m. up y m (⊎-elim (λ q. let g = ap key q in omega arith) (λ i. let c = r .0 y i in omega arith) (cases-cons m))), t)
+    | inr e ↦
+        let b = ltb-false (key n) (key x) e in
+        rw e (
+          (λ y m. ⊎-elim (λ q. rw q (low x (here refl) b)) (λ i. t .0 y i) (insert-member n l m)),
+          two-insert R n l (r .1) (λ y m. up y (there m)) (λ y m. low y (there m)) (t .1),
+        )
+  ]
+
+  pub rising-insert : (n : A) (l : List A) → Rising key l → has key l (key n) ≡ false → Rising key (insert key n l)
+  rising-insert n l r h =
+      two-insert (λ x y. key x < key y) n l r (λ y m b. b)
+      (λ y m b. elim (ℕ-discrete (key y) (key n)) [
+        | yes e ↦ never (has key l (key n)) (rw e at (member-has key l m)) h
+        | no d ↦ omega arith
+      ])
+      r
+
+  -- ---- change each, keeping its key
+
+  module _ (f : A → A) (same : (x : A) → key (f x) ≡ key x) where
+    pub has-map : (l : List A) (k : ℕ) → has key (map f l) k ≡ has key l k
+    has-map [] k = refl
+    has-map (x ∷ l) k = rw (same x, has-map l k)
+
+    pub at-map : (none : ℕ → A) (l : List A) (k : ℕ) → has key l k ≡ true → at key none (map f l) k ≡ f (at key none l k)
+    at-map none [] k h = never false h refl
+    at-map none (x ∷ l) k h = elim (tested (eqb (key x) k)) [
+      | inl e ↦ rw (same x, e)
+      | inr e ↦ rw (same x, e) (at-map none l k (rw e at h))
+    ]
+
+    -- where the change leaves the elements of a key as they are
+    pub at-map-same : (none : ℕ → A) (l : List A) (k : ℕ) → ((x : A) → key x ≡ k → f x ≡ x) → at key none (map f l) k ≡ at key none l k
+    at-map-same none [] k h = refl
+    at-map-same none (x ∷ l) k h = elim (tested (eqb (key x) k)) [
+      | inl e ↦ rw (same x, e) (h x (eqb-true (key x) k e))
+      | inr e ↦ rw (same x, e) (at-map-same none l k h)
+    ]
+
+    pub rising-map : (l : List A) → Rising key l → Rising key (map f l)
+    rising-map l r = two-map (λ x y. key x < key y) (λ x y. key x < key y) f (λ x y b. let p = same x in let q = same y in omega arith) l r
+
+  -- ---- keep some, by their keys
+
+  module _ (q : ℕ → Bool) where
+    pub has-keep : (l : List A) (k : ℕ) → has key (keep (λ x. q (key x)) l) k ≡ (q k && has key l k)
+    has-keep [] k = elim (tested (q k)) [
+      | inl e ↦ rw e
+      | inr e ↦ rw e
+    ]
+    has-keep (x ∷ l) k = elim (tested (eqb (key x) k)) [
+      | inl f ↦ let s = ap q (eqb-true (key x) k f) in elim (tested (q k)) [
+        | inl e ↦ rw (s ∙ e, f, e)
+        | inr e ↦ rw (s ∙ e, has-keep l k, e)
+      ]
+      | inr f ↦ elim (tested (q (key x))) [
+        | inl e ↦ rw (e, f) (has-keep l k)
+        | inr e ↦ rw (e, f) (has-keep l k)
+      ]
+    ]
+
+    pub at-keep : (none : ℕ → A) (l : List A) (k : ℕ) → q k ≡ true → at key none (keep (λ x. q (key x)) l) k ≡ at key none l k
+    at-keep none [] k h = refl
+    at-keep none (x ∷ l) k h = elim (tested (q (key x))) [
+      | inl e ↦ rw (e, at-keep none l k h)
+      | inr e ↦ elim (tested (eqb (key x) k)) [
+        | inl f ↦ never (q k) h (sym (ap q (eqb-true (key x) k f)) ∙ e)
+        | inr f ↦ rw (e, f) (at-keep none l k h)
+      ]
+    ]
+
+  -- ---- remove one
+
+  pub sum-remove : (none : ℕ → A) (f : A → ℕ) (l : List A) (k : ℕ) → Rising key l → has key l k ≡ true
+      → f (at key none l k) + sum f (remove key k l) ≡ sum f l
+  sum-remove none f [] k r h = never false h refl
+  sum-remove none f (x ∷ l) k r h = elim (tested (eqb (key x) k)) [
+    | inl e ↦
+        let q = eqb-true (key x) k e in
+        rw (e, keep-all (λ y. not (eqb (key y) k)) l (λ y m. let b = r .0 y m in rw (ne-eqb (key y) k (omega arith))))
+    | inr e ↦ let i = sum-remove none f l k (r .1) (rw e at h) in rw e (omega arith)
+  ]

@@ -1,0 +1,22 @@
+-- `Threads::len` meets its contract. Assumes nothing.
+use borrow.Author.Needs.{needs}
+use mathlib.Core.Path.{_≡_}
+use lib.ListN.{length}
+use Rattle.lines.specs.Lookup.{unmapped, lines-count}
+use Rattle.threads.specs.Threads.{threadLine, reading}
+use Rattle.threads.proofs.Threads.len.Statement.{statement}
+use Rattle.threads.proofs.Threads.len.Tie as tie
+use Rattle.threads.proofs.used.Reads as used-reads
+
+long : (c : tie.Start) → length (c .args .self .lines) ≡ 32
+long c = search (needs, unmapped)
+
+used-requires : tie.Need-used-requires
+used-requires c κs = search needs
+
+returns : tie.Need-returns
+unfolding reading
+returns c = lines-count threadLine _ _ _ (long (c .before)) (c .used .ensures)
+
+pub len-spec : {M : Type 1} → statement M
+len-spec = tie.close (tie.spec used-requires returns)
