@@ -4,7 +4,7 @@ use mathlib.Core.Path.{_≡_}
 use Rattle.meaning.specs.Model.{Model, Bytes}
 use Rattle.meaning.specs.Facts.{Sound}
 use Rattle.meaning.specs.Calls.{Call, step}
-use Rattle.meaning.specs.Cases.{after}
+use Rattle.meaning.specs.CallList.{after}
 use Rattle.meaning.specs.Laws.Step.{step-accepted}
 use Rattle.laws.specs.AnyStep.{after-step}
 use Rattle.laws.specs.EachCall.{change-sound}

@@ -5,7 +5,7 @@ use mathlib.Core.Path.{_≡_, sym, _∙_, ap}
 use Prim.Native.Nat.{ℕ, _+_, _≤_, _<_, min}
 use native.Mathlib.Omega.{arith}
 use lib.Dec.{ltb, eqb}
-use lib.ListN.{length, getD, length-map}
+use lib.ListN.{length, getD, List·getD-eq-default, length-map}
 use borrow.Author.Tests.{le-ltb}
 use Rattle.lists.specs.Keyed.{has, at, insert}
 use Rattle.lists.specs.KeyedLaws.{at-none}
@@ -25,6 +25,13 @@ module _ {A B : Type 0} (σ : Shape A B) (count n : ℕ) (ls : List A) (long : l
 
   pub lines-count : n ≡ length (live σ count ls)
   lines-count = few ∙ sym (live-length σ count ls ∙ ap (min count) long)
+
+  -- the line at a place, as the list has it
+  pub nth-found : (i : ℕ) → i < n → σ .view (getD ls i (σ .zeros)) ≡ getD (live σ count ls) i (σ .view (σ .zeros))
+  nth-found i h = sym (live-at σ count ls i (omega (arith, few)))
+
+  pub nth-missing : (i : ℕ) (d : B) → n ≤ i → d ≡ getD (live σ count ls) i d
+  nth-missing i d h = sym (List·getD-eq-default (live σ count ls) d {n = i} (omega (arith, lines-count)))
 
   -- a place that is searched for is at most the number of lines
   pub place-fits : (p : B → Bool) (r : ℕ) → r ≡ place p (live σ n ls) → r ≤ n

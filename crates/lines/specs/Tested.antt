@@ -9,7 +9,7 @@ use native.Mathlib.Omega.{arith}
 use lib.ListN.{length, drop, getD, drop-of-length-le}
 use lib.Seq.{drop-cons}
 use borrow.Author.Tests.{lt-ltb, le-ltb}
-use Rattle.lists.specs.Lists.{all}
+use Rattle.lists.specs.Lists.{all, any}
 use Rattle.lists.specs.Keyed.{risingFrom, rising}
 use Rattle.lines.specs.Shape.{Shape, live, live-length, live-at}
 
@@ -24,6 +24,18 @@ module _ {A : Type 0} (p : A → Bool) (l : List A) where
 
   pub all-end : (i : ℕ) → length l ≤ i → all p (drop i l) ≡ true
   all-end i h = rw (drop-of-length-le l h)
+
+-- ---- some element from i on passes a test
+
+module _ {A : Type 0} (p : A → Bool) (l : List A) where
+  pub any-more : (i : ℕ) (d : A) → i < length l → p (getD l i d) ≡ false → any p (drop i l) ≡ any p (drop (i + 1) l)
+  any-more i d h e = rw (drop-cons l i d h, e, add-one)
+
+  pub any-stop : (i : ℕ) (d : A) → i < length l → p (getD l i d) ≡ true → any p (drop i l) ≡ true
+  any-stop i d h e = rw (drop-cons l i d h, e)
+
+  pub any-end : (i : ℕ) → length l ≤ i → any p (drop i l) ≡ false
+  any-end i h = rw (drop-of-length-le l h)
 
 -- ---- the keys of the first n lines rise
 

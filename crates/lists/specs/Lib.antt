@@ -6,3 +6,5 @@ pub mod ListLaws
 pub mod KeyedLaws
 pub mod ListChanges
 pub mod KeyedChanges
+pub mod KeepLaws
+pub mod KeyedKeepLaws

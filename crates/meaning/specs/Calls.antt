@@ -138,7 +138,15 @@ unfoldable pub allChecks : Model → Bytes → Call → List Check
 allChecks m bs c = 16 when (not (eqb (code c) 0) && not (sound m)) ∷ checks m bs c
 
 -- The first check whose condition holds refuses; where none does, the call is accepted and the change is made.
+abbrev pub decide : List Check → Model → Bytes → Outcome → Outcome
+decide ks m bs o =
+    let r = firstReport ks in
+    if eqb r 0 then o else refused r m bs
+
+-- a call by its row of the table alone
+unfoldable pub row : Model → Bytes → Call → Outcome
+row m bs c = decide (checks m bs c) m bs (change m bs c)
+
+-- a call whole
 unfoldable pub step : Model → Bytes → Call → Outcome
-step m bs c =
-    let r = firstReport (allChecks m bs c) in
-    if eqb r 0 then change m bs c else refused r m bs
+step m bs c = decide (allChecks m bs c) m bs (change m bs c)

@@ -9,29 +9,10 @@ use Rattle.meaning.specs.Model.{Run, Model, Bytes, tableLimits, _holds_,
 use Rattle.meaning.specs.Nesting.{nested, depth, storeHolding}
 use Rattle.meaning.specs.Rules.{areasSound, rootSound, storesHang, storesFit, threadsPlaced, stacksFit, runSound, sound}
 use Rattle.meaning.specs.Reports.{firstReport}
+use Rattle.meaning.specs.CallList.{Line, _answers_, _refusedWith_, _finds_below_, after, told}
 use Rattle.meaning.specs.Calls.{Call, start, root, contextOf, setContext, totalOf, usedOf, freeOf, find, allocate, makeStore, clear, resize, makeStack, destroyStack, addThread, removeThread, checks, change, allChecks, step}
 
 -- ---- what a case is
-
--- a call, and what is told of it
-pub record Line : Type 0 where
-  pub call : Call
-  pub report : ℕ
-  pub value : ℕ
-  pub steps : ℕ
-
-infix 70 _answers_ _refusedWith_ _finds_below_
--- accepted, with this value
-abbrev pub _answers_ : Call → ℕ → Line
-c answers v = record { call = c; report = 0; value = v; steps = 0 }
-
--- refused, with this report
-abbrev pub _refusedWith_ : Call → ℕ → Line
-c refusedWith r = record { call = c; report = r; value = 0; steps = 0 }
-
--- accepted, with this store, which is n steps below the root
-abbrev pub _finds_below_ : Call → ℕ → ℕ → Line
-c finds s below n = record { call = c; report = 0; value = s; steps = n }
 
 -- calls one after the other from T0, with what is told of each, and the table after them where the case says it
 pub record Case : Type 0 where
@@ -46,20 +27,6 @@ abbrev pub _leaving_ : List Line → Model → Case
 ls leaving m = record { lines = ls; table = some m }
 
 -- ---- how it comes out
-
--- the table after some calls
-unfoldable pub after : Model → Bytes → List Call → Model
-after m bs [] = m
-after m bs (c ∷ cs) =
-    let o = step m bs c in
-    after (o .model) (o .bytes) cs
-
--- the same calls with what is told of each when they are made
-unfoldable pub told : Model → Bytes → List Call → List Line
-told m bs [] = []
-told m bs (c ∷ cs) =
-    let o = step m bs c in
-    record { call = c; report = o .report; value = o .value; steps = o .steps } ∷ told (o .model) (o .bytes) cs
 
 -- a table of zeros
 unfoldable pub zeros : Model

@@ -4,3 +4,4 @@ pub mod Step
 pub mod Bytes
 pub mod Nested
 pub mod Find
+pub mod Within

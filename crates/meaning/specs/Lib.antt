@@ -6,6 +6,7 @@ pub mod Facts
 pub mod Reports
 pub mod Changes
 pub mod Calls
+pub mod CallList
 pub mod RunQuestion
 pub mod Cases
 pub mod Laws

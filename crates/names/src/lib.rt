@@ -11,4 +11,5 @@ pub use lines::Block;
 pub use lines::Stack;
 pub use lines::Store;
 pub use lines::Thread;
+pub use report::Reply;
 pub use report::Report;

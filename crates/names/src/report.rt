@@ -21,6 +21,30 @@ pub enum Report {
     UnsoundTable,
 }
 
+// What a call tells: its report and its value.
+pub struct Reply {
+    pub report: Report,
+    pub value: u32,
+}
+
+impl Reply {
+    pub fn accepted(value: u32) -> Self
+        ensures { λ r. ⌜ r ≡ record { report = Report.Accepted; value = value } ⌝ }
+    {
+        Self {
+            report: Report::Accepted,
+            value,
+        }
+    }
+
+    // A refusal has value 0.
+    pub fn refused(report: Report) -> Self
+        ensures { λ r. ⌜ r ≡ record { report = report; value = 0 } ⌝ }
+    {
+        Self { report, value: 0 }
+    }
+}
+
 impl Report {
     pub fn number(self) -> u32
         ensures { λ r. ⌜ r ≡ numberOf self ⌝ }

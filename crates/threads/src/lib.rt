@@ -4,7 +4,7 @@ ghost use mathlib.Core.List.{[]};
 ghost use mathlib.Core.Path.{_≡_};
 ghost use Prim.Native.Nat.{_≤_, _<_, min};
 ghost use lib.Dec.{ltb};
-ghost use lib.ListN.{length};
+ghost use lib.ListN.{length, getD};
 ghost use Rattle.lists.specs.Choice.{if_then_else_};
 ghost use Rattle.lists.specs.Keyed.{has, insert, remove, rising};
 ghost use Rattle.lines.specs.Shape.{live, pad, blank};
@@ -210,6 +210,18 @@ impl Threads {
         ensures { λ r. ⌜ r ≡ length (reading self) ⌝ }
     {
         used(self.count)
+    }
+
+    // The thread at a place of the list, zeros past its end.
+    pub fn nth(self, i: usize) -> Thread
+        ensures { λ r. ⌜ r ≡ back (getD (reading self) i (view zeros)) ⌝ }
+    {
+        let lines = self.lines;
+        let n = used(self.count);
+        if i < n {
+            return lines[i];
+        }
+        Thread::new(ThreadId(0), StoreId(0))
     }
 
     pub fn has(self, id: ThreadId) -> bool

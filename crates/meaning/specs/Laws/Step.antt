@@ -15,7 +15,7 @@ use Rattle.meaning.specs.Rules.{sound}
 use Rattle.meaning.specs.Facts.{Sound}
 use Rattle.meaning.specs.Laws.Agree.{sound-agrees}
 use Rattle.meaning.specs.Reports.{Check, firstReport}
-use Rattle.meaning.specs.Calls.{Call, start, root, contextOf, setContext, totalOf, usedOf, freeOf, find, allocate, makeStore, clear, resize, makeStack, destroyStack, addThread, removeThread, code, refused, checks, change, allChecks, step}
+use Rattle.meaning.specs.Calls.{Call, start, root, contextOf, setContext, totalOf, usedOf, freeOf, find, allocate, makeStore, clear, resize, makeStack, destroyStack, addThread, removeThread, code, refused, checks, change, allChecks, row, step}
 
 -- r is the report of the first of the checks whose condition holds: its own holds and no earlier one does
 pub data First (r : ℕ) : List Check → Type 0 where
@@ -35,36 +35,36 @@ abbrev pub changesModel : ℕ → Bool
 changesModel k = eqb k 0 || eqb k 3 || leb 8 k
 
 -- what is seen of each call's row alone
-record Row (m : Model) (bs : Bytes) (c : Call) : Type 0 where
+record Plain (m : Model) (bs : Bytes) (c : Call) : Type 0 where
   numbered : Numbered (allChecks m bs c)
   report : change m bs c .report ≡ 0
   model : changesModel (code c) ≡ false → change m bs c .model ≡ m
   bytes : (code c ≡ 8 → ⊥) → change m bs c .bytes ≡ bs
 
-row : (m : Model) (bs : Bytes) (c : Call) → Row m bs c
+plain : (m : Model) (bs : Bytes) (c : Call) → Plain m bs c
 unfolding allChecks checks change
-row m bs (start a b) = record { numbered = refl; report = refl; model = never true refl; bytes = λ _. refl }
-row m bs root = record { numbered = refl; report = refl; model = λ _. refl; bytes = λ _. refl }
-row m bs (contextOf t) = record { numbered = refl; report = refl; model = λ _. refl; bytes = λ _. refl }
-row m bs (setContext t s) = record { numbered = refl; report = refl; model = never true refl; bytes = λ _. refl }
-row m bs (totalOf s) = record { numbered = refl; report = refl; model = λ _. refl; bytes = λ _. refl }
-row m bs (usedOf s) = record { numbered = refl; report = refl; model = λ _. refl; bytes = λ _. refl }
-row m bs (freeOf s) = record { numbered = refl; report = refl; model = λ _. refl; bytes = λ _. refl }
-row m bs (find a) = record { numbered = refl; report = refl; model = λ _. refl; bytes = λ _. refl }
-row m bs (allocate t n) = record { numbered = refl; report = refl; model = never true refl; bytes = λ h. absurd (h refl) }
-row m bs (makeStore t n) = record { numbered = refl; report = refl; model = never true refl; bytes = λ _. refl }
-row m bs (clear t) = record { numbered = refl; report = refl; model = never true refl; bytes = λ _. refl }
-row m bs (resize s n) = record { numbered = refl; report = refl; model = never true refl; bytes = λ _. refl }
-row m bs (makeStack n) = record { numbered = refl; report = refl; model = never true refl; bytes = λ _. refl }
-row m bs (destroyStack k) = record { numbered = refl; report = refl; model = never true refl; bytes = λ _. refl }
-row m bs (addThread t s) = record { numbered = refl; report = refl; model = never true refl; bytes = λ _. refl }
-row m bs (removeThread t) = record { numbered = refl; report = refl; model = never true refl; bytes = λ _. refl }
+plain m bs (start a b) = record { numbered = refl; report = refl; model = never true refl; bytes = λ _. refl }
+plain m bs root = record { numbered = refl; report = refl; model = λ _. refl; bytes = λ _. refl }
+plain m bs (contextOf t) = record { numbered = refl; report = refl; model = λ _. refl; bytes = λ _. refl }
+plain m bs (setContext t s) = record { numbered = refl; report = refl; model = never true refl; bytes = λ _. refl }
+plain m bs (totalOf s) = record { numbered = refl; report = refl; model = λ _. refl; bytes = λ _. refl }
+plain m bs (usedOf s) = record { numbered = refl; report = refl; model = λ _. refl; bytes = λ _. refl }
+plain m bs (freeOf s) = record { numbered = refl; report = refl; model = λ _. refl; bytes = λ _. refl }
+plain m bs (find a) = record { numbered = refl; report = refl; model = λ _. refl; bytes = λ _. refl }
+plain m bs (allocate t n) = record { numbered = refl; report = refl; model = never true refl; bytes = λ h. absurd (h refl) }
+plain m bs (makeStore t n) = record { numbered = refl; report = refl; model = never true refl; bytes = λ _. refl }
+plain m bs (clear t) = record { numbered = refl; report = refl; model = never true refl; bytes = λ _. refl }
+plain m bs (resize s n) = record { numbered = refl; report = refl; model = never true refl; bytes = λ _. refl }
+plain m bs (makeStack n) = record { numbered = refl; report = refl; model = never true refl; bytes = λ _. refl }
+plain m bs (destroyStack k) = record { numbered = refl; report = refl; model = never true refl; bytes = λ _. refl }
+plain m bs (addThread t s) = record { numbered = refl; report = refl; model = never true refl; bytes = λ _. refl }
+plain m bs (removeThread t) = record { numbered = refl; report = refl; model = never true refl; bytes = λ _. refl }
 
 -- the report of a call is the first of its checks' that holds
 pub step-report : (m : Model) (bs : Bytes) (c : Call) → step m bs c .report ≡ firstReport (allChecks m bs c)
 unfolding step
 step-report m bs c = elim (tested (eqb (firstReport (allChecks m bs c)) 0)) [
-  | inl e ↦ rw e (row m bs c .report ∙ sym (eqb-true (firstReport (allChecks m bs c)) 0 e))
+  | inl e ↦ rw e (plain m bs c .report ∙ sym (eqb-true (firstReport (allChecks m bs c)) 0 e))
   | inr e ↦ rw e
 ]
 
@@ -118,19 +118,19 @@ report-exact m bs c r n =
 -- A call is accepted exactly when no condition holds.
 pub accepted-exact : (m : Model) (bs : Bytes) (c : Call) → (step m bs c .report ≡ 0) ↔ NoneHolds (allChecks m bs c)
 accepted-exact m bs c =
-    (λ h. given-none _ (row m bs c .numbered) (sym (step-report m bs c) ∙ h), λ f. step-report m bs c ∙ none-given _ f)
+    (λ h. given-none _ (plain m bs c .numbered) (sym (step-report m bs c) ∙ h), λ f. step-report m bs c ∙ none-given _ f)
 
 -- No call but 0, 3, 8 to 15 changes the model.
 pub question-keeps-model : (m : Model) (bs : Bytes) (c : Call) → changesModel (code c) ≡ false → step m bs c .model ≡ m
 question-keeps-model m bs c q = elim (ℕ-discrete (step m bs c .report) 0) [
-  | yes a ↦ ap (λ o. o .model) (step-accepted m bs c a) ∙ row m bs c .model q
+  | yes a ↦ ap (λ o. o .model) (step-accepted m bs c a) ∙ plain m bs c .model q
   | no r ↦ ap (λ o. o .model) (step-refused m bs c r)
 ]
 
 -- No call but 8 changes a byte.
 pub others-keep-bytes : (m : Model) (bs : Bytes) (c : Call) → (code c ≡ 8 → ⊥) → step m bs c .bytes ≡ bs
 others-keep-bytes m bs c q = elim (ℕ-discrete (step m bs c .report) 0) [
-  | yes a ↦ ap (λ o. o .bytes) (step-accepted m bs c a) ∙ row m bs c .bytes q
+  | yes a ↦ ap (λ o. o .bytes) (step-accepted m bs c a) ∙ plain m bs c .bytes q
   | no r ↦ ap (λ o. o .bytes) (step-refused m bs c r)
 ]
 
@@ -140,3 +140,11 @@ unfolding allChecks
 accepted-sound m bs c n h =
     let f = and-iff (not (not (eqb (code c) 0) && not (sound m))) _ .0 (accepted-exact m bs c .0 h) .0 in
     sound-agrees m .0 (not-false (sound m) (not-true (not (sound m)) (rw (ne-eqb (code c) 0 n) at f)))
+
+-- On a sound model a call is its row.
+pub sound-row : (m : Model) (bs : Bytes) (c : Call) → sound m ≡ true → step m bs c ≡ row m bs c
+unfolding step row allChecks firstReport
+sound-row m bs c h = elim (tested (eqb (code c) 0)) [
+  | inl e ↦ rw e
+  | inr e ↦ rw (e, h)
+]

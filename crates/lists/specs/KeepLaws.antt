@@ -1,0 +1,90 @@
+-- How keeping some elements and changing each go together: equal lists. Assumes nothing.
+use mathlib.Core.Bool.{Bool, true, false}
+use mathlib.Core.List.{List, [], _∷_, map, List·Memᴰ·head as here, List·Memᴰ·tail as there}
+use mathlib.Core.Logic.{inl, inr}
+use mathlib.Core.Path.{_≡_, refl}
+use Rattle.lists.specs.Lists.{_∈_, any, keep, rest}
+use Rattle.lists.specs.Tests.{tested, never, or-false-iff}
+
+module _ {A : Type 0} where
+  -- changes that agree on the elements
+  pub map-agree : (f g : A → A) (l : List A) → ((x : A) → x ∈ l → f x ≡ g x) → map f l ≡ map g l
+  map-agree f g [] h = refl
+  map-agree f g (x ∷ l) h = rw (h x (here refl), map-agree f g l (λ y m. h y (there m)))
+
+  -- a change that leaves each element as it is
+  pub map-none : (f : A → A) (l : List A) → ((x : A) → x ∈ l → f x ≡ x) → map f l ≡ l
+  map-none f [] h = refl
+  map-none f (x ∷ l) h = rw (h x (here refl), map-none f l (λ y m. h y (there m)))
+
+  -- two changes that may be made in either order
+  pub map-swap : (f g : A → A) → ((x : A) → f (g x) ≡ g (f x)) → (l : List A) → map f (map g l) ≡ map g (map f l)
+  map-swap f g h [] = refl
+  map-swap f g h (x ∷ l) = rw (h x, map-swap f g h l)
+
+  -- tests that agree on the elements
+  pub keep-agree : (p q : A → Bool) (l : List A) → ((x : A) → x ∈ l → p x ≡ q x) → keep p l ≡ keep q l
+  keep-agree p q [] h = refl
+  keep-agree p q (x ∷ l) h = rw (h x (here refl), keep-agree p q l (λ y m. h y (there m)))
+
+  pub keep-swap : (p q : A → Bool) (l : List A) → keep p (keep q l) ≡ keep q (keep p l)
+  keep-swap p q [] = refl
+  keep-swap p q (x ∷ l) = elim (tested (p x)) [
+    | inl e ↦ elim (tested (q x)) [
+      | inl f ↦ rw (e, f, e, keep-swap p q l)
+      | inr f ↦ rw (e, f, keep-swap p q l)
+    ]
+    | inr e ↦ elim (tested (q x)) [
+      | inl f ↦ rw (e, f, e, keep-swap p q l)
+      | inr f ↦ rw (e, f, keep-swap p q l)
+    ]
+  ]
+
+  -- after a weaker test a stronger one keeps what it keeps alone
+  pub keep-stronger : (p q : A → Bool) → ((x : A) → p x ≡ true → q x ≡ true) → (l : List A) → keep p (keep q l) ≡ keep p l
+  keep-stronger p q w [] = refl
+  keep-stronger p q w (x ∷ l) = elim (tested (p x)) [
+    | inl e ↦ rw (w x e, e, keep-stronger p q w l)
+    | inr e ↦ elim (tested (q x)) [
+      | inl f ↦ rw (e, f, e, keep-stronger p q w l)
+      | inr f ↦ rw (e, f, keep-stronger p q w l)
+    ]
+  ]
+
+  -- a change that the test does not see
+  pub keep-map : (p : A → Bool) (f : A → A) → ((x : A) → p (f x) ≡ p x) → (l : List A) → keep p (map f l) ≡ map f (keep p l)
+  keep-map p f s [] = refl
+  keep-map p f s (x ∷ l) = elim (tested (p x)) [
+    | inl e ↦ rw (s x, e, keep-map p f s l)
+    | inr e ↦ rw (s x, e, keep-map p f s l)
+  ]
+
+  -- what no element passes, none of the kept ones passes, nor the changed ones where the test does not see the change
+  any-keep : (p q : A → Bool) (l : List A) → any p l ≡ false → any p (keep q l) ≡ false
+  any-keep p q [] h = refl
+  any-keep p q (x ∷ l) h = elim (tested (p x)) [
+    | inl e ↦ never true refl (rw e at h)
+    | inr e ↦ elim (tested (q x)) [
+      | inl f ↦ rw (f, e, any-keep p q l (rw e at h))
+      | inr f ↦ rw (f, any-keep p q l (rw e at h))
+    ]
+  ]
+
+  pub any-map : (p : A → Bool) (f : A → A) → ((x : A) → p (f x) ≡ p x) → (l : List A) → any p (map f l) ≡ any p l
+  any-map p f s [] = refl
+  any-map p f s (x ∷ l) = rw (s x, any-map p f s l)
+
+  pub rest-map : (f : A → A) (l : List A) → rest (map f l) ≡ map f (rest l)
+  rest-map f [] = refl
+  rest-map f (x ∷ l) = refl
+
+  any-rest : (p : A → Bool) (l : List A) → any p l ≡ false → any p (rest l) ≡ false
+  any-rest p [] h = h
+  any-rest p (x ∷ l) h = or-false-iff (p x) (any p l) .0 h .1
+
+  pub any-rest-keep : (p q : A → Bool) (l : List A) → any p (rest l) ≡ false → any p (rest (keep q l)) ≡ false
+  any-rest-keep p q [] h = h
+  any-rest-keep p q (x ∷ l) h = elim (tested (q x)) [
+    | inl e ↦ rw e (any-keep p q l h)
+    | inr e ↦ rw e (any-rest p (keep q l) (any-keep p q l h))
+  ]
