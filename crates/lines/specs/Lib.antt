@@ -5,3 +5,6 @@ pub mod Opened
 pub mod Kept
 pub mod Tested
 pub mod Lookup
+pub mod Others
+pub mod Halves
+pub mod Carried

@@ -62,7 +62,7 @@ module _ {A B : Type 0} (σ : Shape A B) where
   all-zeros (a ∷ ls) h = let b = and-iff (σ .isZeros a) _ .0 h in ap₂ (λ a b. a ∷ b) (σ .isZeros-true a (b .0)) (all-zeros ls (b .1))
 
   -- where the lines past the count hold zeros, the lines are those of what they mean
-  pub pad-live : (n : ℕ) (ls : List A) → length ls ≡ σ .limit → n ≤ σ .limit → blank n ls ≡ true → pad (live n ls) ≡ ls
+  pad-live : (n : ℕ) (ls : List A) → length ls ≡ σ .limit → n ≤ σ .limit → blank n ls ≡ true → pad (live n ls) ≡ ls
   unfolding live pad blank
   pad-live n ls e h b =
       let left : σ .limit - length (map (σ .view) (take n ls)) ≡ length (drop n ls) = simp (length-map, length-take, length-drop) (omega arith) in
@@ -82,3 +82,7 @@ module _ {A B : Type 0} (σ : Shape A B) where
         let m : k ≤ n = omega arith in
         rw (min-eq-right m, take-all k ls (omega arith), take-all n ls (omega arith))
   ]
+
+  -- a count and lines that obey rule 8 are those of what they mean
+  pub written-back : (n : ℕ) (ls : List A) → length ls ≡ σ .limit → n ≤ σ .limit → blank n ls ≡ true → (length (live n ls) ≡ n) × (pad (live n ls) ≡ ls)
+  written-back n ls e h b = (live-length n ls ∙ ap (min n) e ∙ min-eq-left h, pad-live n ls e h b)

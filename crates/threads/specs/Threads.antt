@@ -1,14 +1,13 @@
 -- The list of threads: how its lines read, how a list is written, and when it is clean. Assumes nothing.
 use mathlib.Core.Bool.{Bool, true, not, _&&_}
 use mathlib.Core.List.{List}
-use mathlib.Core.Path.{_≡_, refl, _∙_}
+use mathlib.Core.Path.{_≡_, refl}
 use Prim.Native.Nat.{ℕ}
-use native.Mathlib.Nat.{min-eq-left}
 use lib.Dec.{leb, ltb, eqb}
 use lib.ListN.{length}
 use borrow.Author.Tests.{leb-true, eqb-true}
 use Rattle.lists.specs.Tests.{and-iff}
-use Rattle.lines.specs.Shape.{Shape, live, pad, blank, live-length, live-pad, pad-live}
+use Rattle.lines.specs.Shape.{Shape, live, pad, blank, live-pad, written-back}
 use Rattle.meaning.specs.Model.{Thread}
 use Rattle.names.specs.declared.lines.Thread.{Thread as Line}
 use Rattle.threads.specs.declared.Threads.{Threads}
@@ -71,6 +70,5 @@ pub written-reading : (s : Threads) → length (s .lines) ≡ 32 → clean s ≡
 unfolding reading written clean
 written-reading s e h =
     let b = and-iff (leb (s .count) 32) _ .0 h in
-    let few = leb-true (s .count) 32 (b .0) in
-    let many : length (live threadLine (s .count) (s .lines)) ≡ s .count = live-length threadLine (s .count) (s .lines) ∙ rw e (min-eq-left few) in
-    λ i. record { count = many i; lines = pad-live threadLine (s .count) (s .lines) e few (b .1) i }
+    let w = written-back threadLine (s .count) (s .lines) e (leb-true (s .count) 32 (b .0)) (b .1) in
+    λ i. record { count = w .0 i; lines = w .1 i }

@@ -27,7 +27,7 @@ abbrev pub NoneHolds : List Check → Type 0
 NoneHolds ks = all (λ k. not (k .condition)) ks ≡ true
 
 -- no check has the report 0
-abbrev Numbered : List Check → Type 0
+abbrev pub Numbered : List Check → Type 0
 Numbered ks = all (λ k. ltb 0 (k .report)) ks ≡ true
 
 -- the codes of the calls that change the model: 0, 3, 8 to 15
@@ -93,14 +93,15 @@ given-first r (k ∷ ks) n h = elim (tested (k .condition)) [
   | inr e ↦ later e (given-first r ks n (rw e at h))
 ]
 
-none-given : (ks : List Check) → NoneHolds ks → firstReport ks ≡ 0
+-- checks give no report exactly where no condition holds
+pub none-given : (ks : List Check) → NoneHolds ks → firstReport ks ≡ 0
 unfolding firstReport
 none-given [] h = refl
 none-given (k ∷ ks) h =
     let b = and-iff (not (k .condition)) _ .0 h in
     rw (not-iff (k .condition) .0 (b .0)) (none-given ks (b .1))
 
-given-none : (ks : List Check) → Numbered ks → firstReport ks ≡ 0 → NoneHolds ks
+pub given-none : (ks : List Check) → Numbered ks → firstReport ks ≡ 0 → NoneHolds ks
 unfolding firstReport
 given-none [] n h = refl
 given-none (k ∷ ks) n h =

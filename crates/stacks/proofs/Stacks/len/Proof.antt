@@ -1,0 +1,22 @@
+-- `Stacks::len` meets its contract. Assumes nothing.
+use borrow.Author.Needs.{needs}
+use mathlib.Core.Path.{_≡_}
+use lib.ListN.{length}
+use Rattle.lines.specs.Lookup.{unmapped, lines-count}
+use Rattle.stacks.specs.Stacks.{stackLine, reading}
+use Rattle.stacks.proofs.Stacks.len.Statement.{statement}
+use Rattle.stacks.proofs.Stacks.len.Tie as tie
+use Rattle.stacks.proofs.used.Reads as used-reads
+
+long : (c : tie.Start) → length (c .args .self .lines) ≡ 32
+long c = search (needs, unmapped)
+
+used-requires : tie.Need-used-requires
+used-requires c κs = search needs
+
+returns : tie.Need-returns
+unfolding reading
+returns c = lines-count stackLine _ _ _ (long (c .before)) (c .used .ensures)
+
+pub len-spec : {M : Type 1} → statement M
+len-spec = tie.close (tie.spec used-requires returns)

@@ -1,0 +1,101 @@
+-- `Stores::broken_rule` meets its contract: rule 2, then rule 3 in two parts, then rule 4 in two parts. Assumes nothing.
+use borrow.Author.Needs.{needs}
+use mathlib.Core.Bool.{true}
+use mathlib.Core.List.{List}
+use mathlib.Core.Path.{_≡_, sym, _∙_, ap}
+use borrow.Author.Tests.{not-true, not-false}
+use lib.ListN.{length}
+use Rattle.lists.specs.Lists.{all}
+use Rattle.lists.specs.Keyed.{rising}
+use Rattle.lines.specs.Shape.{live}
+use Rattle.lines.specs.Lookup.{unmapped, lines-read}
+use Rattle.meaning.specs.Model.{Store, storeName}
+use Rattle.meaning.specs.Rules.{rootSound, storesHang, fits}
+use Rattle.meaning.specs.Reading.{runOf}
+use Rattle.stores.specs.Stores.{storeLine, reading, brokenStores}
+use Rattle.stores.specs.Broken.{hang-falling, hang-loose, hang-all, fit-over, fit-astray, fit-all, broken-2, broken-3, broken-4, broken-none}
+use Rattle.stores.proofs.Stores.broken_rule.Statement.{statement}
+use Rattle.stores.proofs.Stores.broken_rule.Tie as tie
+use Rattle.stores.proofs.in_use.Reads as in-use-reads
+use Rattle.stores.proofs.lines_fit.Reads as lines-fit-reads
+use Rattle.stores.proofs.lines_hang.Reads as lines-hang-reads
+use Rattle.stores.proofs.lines_nest.Reads as lines-nest-reads
+use Rattle.stores.proofs.lines_rise.Reads as lines-rise-reads
+use Rattle.stores.proofs.root_sound.Reads as root-sound-reads
+
+long : (c : tie.Start) → length (c .args .self .lines) ≡ 64
+long c = search (needs, unmapped)
+
+-- the lines that are read, and that they are the list
+abbrev lines : tie.After-in-use → List Store
+lines c = live storeLine (c .in-use .result) (c .before .before .args .self .lines)
+
+same : (c : tie.After-in-use) → let a = c .before .before .args in brokenStores (runOf (a .area)) (lines c) ≡ brokenStores (runOf (a .area)) (reading (a .self))
+unfolding reading
+same c = ap (brokenStores (runOf (c .before .before .args .area))) (lines-read storeLine _ _ _ (long (c .before .before)) (c .in-use .ensures))
+
+-- what holds past each test
+root-ok : (c : tie.Else1) → rootSound (runOf (c .before .before .before .before .args .area)) (lines (c .before .before)) ≡ true
+root-ok c = sym (c .before .root-sound .ensures) ∙ not-false _ (c .if1 .left)
+
+rise-ok : (c : tie.Else2) → rising storeName (lines (c .before .before .before .before)) ≡ true
+rise-ok c = sym (c .before .lines-rise .ensures) ∙ not-false _ (c .if2 .left)
+
+hang-ok : (c : tie.Else3) → storesHang (lines (c .before .before .before .before .before .before)) ≡ true
+hang-ok c = hang-all _ (rise-ok (c .before .before)) (sym (c .before .lines-hang .ensures) ∙ not-false _ (c .if3 .left))
+
+fit-ok : (c : tie.Else4) → all fits (lines (c .before .before .before .before .before .before .before .before)) ≡ true
+fit-ok c = sym (c .before .lines-fit .ensures) ∙ not-false _ (c .if4 .left)
+
+in-use-requires : tie.Need-in-use-requires
+in-use-requires c κs = search needs
+
+root-sound-requires : tie.Need-root-sound-requires
+root-sound-requires c κs = search needs
+
+returns : tie.Need-returns
+returns c = broken-2 _ _ (sym (c .before .root-sound .ensures) ∙ not-true _ (c .if1 .taken)) ∙ same (c .before .before)
+
+lines-rise-requires : tie.Need-lines-rise-requires
+lines-rise-requires c κs = search needs
+
+returns-2 : tie.Need-returns-2
+returns-2 c = broken-3 _ _ (root-ok (c .before .before)) (hang-falling _ (sym (c .before .lines-rise .ensures) ∙ not-true _ (c .if2 .taken))) ∙ same (c .before .before .before .before)
+
+lines-hang-requires : tie.Need-lines-hang-requires
+lines-hang-requires c κs = (search needs, rise-ok c)
+
+returns-3 : tie.Need-returns-3
+returns-3 c = broken-3 _ _ (root-ok (c .before .before .before .before)) (hang-loose _ (rise-ok (c .before .before)) (sym (c .before .lines-hang .ensures) ∙ not-true _ (c .if3 .taken))) ∙ same (c .before .before .before .before .before .before)
+
+lines-fit-requires : tie.Need-lines-fit-requires
+lines-fit-requires c κs = search needs
+
+returns-4 : tie.Need-returns-4
+returns-4 c = broken-4 _ _ (root-ok (c .before .before .before .before .before .before)) (hang-ok (c .before .before)) (fit-over _ (hang-ok (c .before .before)) (sym (c .before .lines-fit .ensures) ∙ not-true _ (c .if4 .taken))) ∙ same (c .before .before .before .before .before .before .before .before)
+
+lines-nest-requires : tie.Need-lines-nest-requires
+lines-nest-requires c κs = (search needs, hang-ok (c .before .before))
+
+returns-5 : tie.Need-returns-5
+returns-5 c = broken-4 _ _ (root-ok (c .before .before .before .before .before .before .before .before)) (hang-ok (c .before .before .before .before)) (fit-astray _ (hang-ok (c .before .before .before .before)) (fit-ok (c .before .before)) (sym (c .before .lines-nest .ensures) ∙ not-true _ (c .if5 .taken))) ∙ same (c .before .before .before .before .before .before .before .before .before .before)
+
+returns-6 : tie.Need-returns-6
+returns-6 c = broken-none _ _ (root-ok (c .before .before .before .before .before .before .before .before)) (hang-ok (c .before .before .before .before)) (fit-all _ (hang-ok (c .before .before .before .before)) (fit-ok (c .before .before)) (sym (c .before .lines-nest .ensures) ∙ not-false _ (c .if5 .left))) ∙ same (c .before .before .before .before .before .before .before .before .before .before)
+
+pub broken-rule-spec : {M : Type 1} → statement M
+broken-rule-spec =
+    tie.close
+    (tie.spec
+    in-use-requires
+    root-sound-requires
+    returns
+    lines-rise-requires
+    returns-2
+    lines-hang-requires
+    returns-3
+    lines-fit-requires
+    returns-4
+    lines-nest-requires
+    returns-5
+    returns-6)

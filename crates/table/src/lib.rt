@@ -1,0 +1,68 @@
+// The table that the board holds, and whether it is sound.
+ghost use mathlib.Core.Path.{_≡_};
+ghost use Rattle.table.specs.Table.{allClean, brokenRule};
+use names::Area;
+use stacks::Stacks;
+use stores::Stores;
+use threads::Threads;
+
+pub struct Areas {
+    pub stores: Area,
+    pub stacks: Area,
+}
+
+pub struct Table {
+    pub areas: Areas,
+    pub free: Area,
+    pub stores: Stores,
+    pub threads: Threads,
+    pub stacks: Stacks,
+}
+
+impl Table {
+    // The lowest of the eight rules that is broken, 0 if none.
+    pub fn broken_rule(self) -> u32
+        ensures { λ r. ⌜ r ≡ brokenRule self ⌝ }
+    {
+        let areas = self.areas;
+        let stores = self.stores;
+        let threads = self.threads;
+        let stacks = self.stacks;
+        let store_area = areas.stores;
+        let stack_area = areas.stacks;
+        let free = self.free;
+        if !areas::sound(store_area, stack_area) {
+            return 1;
+        }
+        let k = stores.broken_rule(store_area);
+        if k != 0 {
+            return k;
+        }
+        if !contexts::placed(threads, stores) {
+            return 5;
+        }
+        if !stacks.fit(stack_area, free) {
+            return 6;
+        }
+        if !stacks.run_sound(stack_area, free) {
+            return 7;
+        }
+        if !all_clean(stores, threads, stacks) {
+            return 8;
+        }
+        0
+    }
+}
+
+// Rule 8: the lists are clean.
+fn all_clean(stores: Stores, threads: Threads, stacks: Stacks) -> bool
+    ensures { λ r. ⌜ r ≡ allClean stores threads stacks ⌝ }
+{
+    if !stores.is_clean() {
+        return false;
+    }
+    if !threads.is_clean() {
+        return false;
+    }
+    stacks.is_clean()
+}
