@@ -7,6 +7,7 @@ pub mod Reports
 pub mod Changes
 pub mod Calls
 pub mod CallList
+pub mod Parts
 pub mod RunQuestion
 pub mod Cases
 pub mod Laws
