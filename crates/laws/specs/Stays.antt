@@ -21,7 +21,7 @@ use Rattle.laws.specs.AnyStep.{after-step}
 use Rattle.laws.specs.ByName.{Listed, usedIn, named}
 use Rattle.laws.specs.Geometry.{none-at-free}
 use Rattle.laws.specs.StoreChanges.{used-set, resized, kept, added}
-use Rattle.laws.specs.StoreCalls.{context-listed}
+use Rattle.meaning.specs.Laws.Within.{context-listed}
 use Rattle.laws.specs.Touched.{nothing, just, storeLines, threadLine, stackLine, Touched, touched, SameLine, StoresStay, Stays}
 
 stores-same : (t : Touched) (ss : List Store) → StoresStay t ss ss

@@ -8,14 +8,14 @@ use native.Mathlib.Omega.{arith}
 use lib.Dec.{eqb}
 use borrow.Author.Tests.{eq-eqb, ne-eqb}
 use Rattle.lists.specs.Lists.{_∈_, keep, rest}
-use Rattle.lists.specs.Keyed.{has, insert}
+use Rattle.lists.specs.Keyed.{insert}
 use Rattle.lists.specs.Tests.{never, false-of, and-iff, unless-iff, not-iff}
 use Rattle.lists.specs.ListLaws.{member-any}
 use Rattle.lists.specs.ListChanges.{two-keep}
-use Rattle.lists.specs.KeyedLaws.{has-iff, at-member}
+use Rattle.lists.specs.KeyedLaws.{has-iff}
 use Rattle.lists.specs.KeyedChanges.{rising-insert, rising-map}
 use Rattle.names.specs.Overhead.{storeOverhead}
-use Rattle.meaning.specs.Model.{Store, Thread, Model, free, storeName, threadName, noSuchThread, listed, storeOf, contextIn, rootOf}
+use Rattle.meaning.specs.Model.{Store, Thread, Model, free, storeName, listed, storeOf, rootOf}
 use Rattle.meaning.specs.Nesting.{Nested, child, nested, parentIn}
 use Rattle.meaning.specs.Reports.{inUse, notOnlyChild}
 use Rattle.meaning.specs.Facts.{Sound}
@@ -36,10 +36,6 @@ module _ (m : Model) (sound : Sound m) where
 
   placed : (t : Thread) → t ∈ m .threads → Listed ss (t .context)
   placed t i = has-iff storeName ss (t .context) .1 (sound .rule5 .placed t i)
-
-  -- the context of a listed thread is listed
-  pub context-listed : (t : ℕ) → has threadName (m .threads) t ≡ true → Listed ss (contextIn (m .threads) t)
-  context-listed t h = placed _ (at-member threadName noSuchThread (m .threads) t h)
 
   -- ---- calls 8 and 9: bytes of the context's free part
 

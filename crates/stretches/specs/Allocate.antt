@@ -18,7 +18,7 @@ use Rattle.meaning.specs.Laws.Nested.{nested-agrees}
 use Rattle.meaning.specs.Laws.Step.{accepted-exact}
 use Rattle.laws.specs.ByName.{Listed, named, by-name}
 use Rattle.laws.specs.Geometry.{nested-inside}
-use Rattle.laws.specs.StoreCalls.{context-listed}
+use Rattle.meaning.specs.Laws.Within.{context-listed}
 use Rattle.stretches.specs.Stretch.{within, moved}
 use Rattle.stretches.specs.Bytes.{zeroed-alike, zeroed-unseen}
 use Rattle.stretches.specs.Follows.{Same, Follows, Unseen}

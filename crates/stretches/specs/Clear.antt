@@ -22,7 +22,7 @@ use Rattle.meaning.specs.Laws.Nested.{nested-agrees}
 use Rattle.meaning.specs.Laws.Step.{accepted-exact, step-accepted}
 use Rattle.laws.specs.ByName.{Listed}
 use Rattle.laws.specs.Nesting.{nested-transitive}
-use Rattle.laws.specs.StoreCalls.{context-listed}
+use Rattle.meaning.specs.Laws.Within.{context-listed}
 use Rattle.stretches.specs.Stretch.{within, instead, moved}
 use Rattle.stretches.specs.Cleared.{notIn, cleared-listed, nested-cleared, stays-listed, not-in-itself}
 use Rattle.stretches.specs.Without.{moveLine, movedThreads, without, remade, moved-alike, instead-not-nested, without-empty}

@@ -17,7 +17,8 @@ use Rattle.meaning.specs.Laws.Step.{accepted-exact}
 use Rattle.laws.specs.ByName.{Listed, named}
 use Rattle.laws.specs.Geometry.{none-at-free}
 use Rattle.laws.specs.StoreChanges.{used-set}
-use Rattle.laws.specs.StoreCalls.{context-listed, allocate-sound, make-store-sound}
+use Rattle.laws.specs.StoreCalls.{allocate-sound, make-store-sound}
+use Rattle.meaning.specs.Laws.Within.{context-listed}
 use Rattle.stretches.specs.Stretch.{within, moved}
 use Rattle.stretches.specs.Without.{without}
 use Rattle.stretches.specs.Bytes.{same-bytes}

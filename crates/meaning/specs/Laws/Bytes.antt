@@ -8,8 +8,10 @@ use Rattle.names.specs.Overhead.{blockTaken}
 use Rattle.meaning.specs.Model.{Model, Bytes, freePart}
 use Rattle.meaning.specs.Reports.{contextStore}
 use Rattle.meaning.specs.Changes.{zeroed}
-use Rattle.meaning.specs.Calls.{allocate, change, step}
-use Rattle.meaning.specs.Laws.Step.{step-accepted}
+use Rattle.meaning.specs.Calls.{allocate, checks, change, allChecks, step}
+use Rattle.lists.specs.Tests.{reflect}
+use Rattle.meaning.specs.Laws.Step.{accepted-exact, accepted-sound, step-accepted}
+use Rattle.meaning.specs.Laws.Within.{store-within, store-fits, context-listed}
 
 pub zeroed-length : (o n : ℕ) (bs : Bytes) → length (zeroed o n bs) ≡ length bs
 zeroed-length o n [] = refl
@@ -43,16 +45,35 @@ zeroed-inside (suc o) n (b ∷ bs) (suc i) d l h k = zeroed-inside o n bs i d (o
 abbrev pub blockOffset : Model → ℕ → ℕ
 blockOffset m t = freePart (contextStore m t) .start - m .storeArea .start
 
--- The bytes after an accepted allocation, against those before it: as many, all of the block 0, all others the same.
+-- The bytes after an accepted allocation, against those before it: the block lies in them; as many, all of the block 0, all others the same.
 pub record BlockZeroed (o n : ℕ) (before after : Bytes) : Type 0 where
+  pub there : o + n ≤ length before
   pub long : length after ≡ length before
   pub low : (i : ℕ) → i < o → getD after i 0 ≡ getD before i 0
-  pub block : (i d : ℕ) → o ≤ i → i < o + n → i < length before → getD after i d ≡ 0
+  pub block : (i d : ℕ) → o ≤ i → i < o + n → getD after i d ≡ 0
   pub high : (i : ℕ) → o + n ≤ i → getD after i 0 ≡ getD before i 0
+
+-- the context's free part lies in the store area, which is as long as the lent one
+block-there : (m : Model) (bs : Bytes) (t n : ℕ) → step m bs (allocate t n) .report ≡ 0 → blockOffset m t + blockTaken n ≤ length bs
+unfolding allChecks checks
+block-there m bs t n h =
+    let f = simp reflect at (accepted-exact m bs (allocate t n) .0 h) in
+    let sound = accepted-sound m bs (allocate t n) (omega arith) h in
+    let there = context-listed m sound t (f .1 .1 .0) in
+    let lies = store-within m sound _ there in
+    let fits = store-fits m sound _ there in
+    omega (arith, f .1 .0, f .1 .1 .1 .0)
 
 pub allocate-bytes : (m : Model) (bs : Bytes) (t n : ℕ) → step m bs (allocate t n) .report ≡ 0
     → BlockZeroed (blockOffset m t) (blockTaken n) bs (step m bs (allocate t n) .bytes)
 unfolding change
 allocate-bytes m bs t n h =
+    let there = block-there m bs t n h in
     rw (step-accepted m bs (allocate t n) h)
-    (record { long = zeroed-length _ _ bs; low = zeroed-before _ _ bs; block = zeroed-inside _ _ bs; high = zeroed-behind _ _ bs })
+    (record {
+      there = there;
+      long = zeroed-length _ _ bs;
+      low = zeroed-before _ _ bs;
+      block = λ i d l k. zeroed-inside _ _ bs i d l k (omega arith);
+      high = zeroed-behind _ _ bs;
+    })
