@@ -7,4 +7,5 @@ pub mod Tested
 pub mod Lookup
 pub mod Others
 pub mod Halves
+pub mod Keys
 pub mod Carried

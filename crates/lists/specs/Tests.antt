@@ -70,6 +70,3 @@ eqb-false-iff a b = (eqb-false a b, ne-eqb a b)
 
 -- facts of a test; `implies-iff` stands before `unless-iff`, which would fit too
 pub ruleset reflect = (and-iff, implies-iff, unless-iff, or-false-iff, not-iff, not-false-iff, ltb-iff, ltb-false-iff, leb-iff, leb-false-iff, eqb-iff, eqb-false-iff)
-
--- tests that `omega` reads
-pub ruleset tests = (ltb-true, ltb-false, leb-true, leb-false, eqb-true, eqb-false)

@@ -1,4 +1,5 @@
 pub mod Stores
+pub mod Starts
 pub mod Climb
 pub mod Pass
 pub mod Steps

@@ -12,6 +12,7 @@ ghost use Rattle.lists.specs.Keyed.{has, insert, rising};
 ghost use Rattle.lines.specs.Shape.{live, pad, blank};
 ghost use Rattle.lines.specs.Search.{place};
 ghost use Rattle.lines.specs.Halves.{Halved};
+ghost use Rattle.lines.specs.Keys.{number};
 ghost use Rattle.lines.specs.Opened.{opened, openedAt};
 ghost use Rattle.meaning.specs.Model.{end, whole, storeName, storeOf, rootOf};
 ghost use Rattle.meaning.specs.Nesting.{parentIn, nested};
@@ -19,6 +20,7 @@ ghost use Rattle.meaning.specs.Rules.{rootSound, hangs, storesHang, fits};
 ghost use Rattle.meaning.specs.Reading.{runOf};
 ghost use Rattle.meaning.specs.Changes.{lineWithUsed, withUsed, lineWithTotal, withTotal, cleared};
 ghost use Rattle.stores.specs.Stores.{view, back, zeros, isZeros, storeLine, reading, written, clean, isStore, isAbove, isOutside, isOtherChild, brokenStores};
+ghost use Rattle.stores.specs.Starts.{startsOf, firstStarts, hangsAmong};
 ghost use Rattle.stores.specs.Pass.{within, walk};
 use names::Area;
 use names::Store;
@@ -291,14 +293,52 @@ fn root_sound(lines: [Store; 64], n: usize, area: Area) -> bool
     p.0 == k.0
 }
 
-// The line has a listed parent with a lower start, and a total of at least 16.
-fn line_hangs(lines: [Store; 64], n: usize, s: Store) -> bool
-    requires { ⌜ (n ≤ 64) × (rising storeName (live storeLine n lines) ≡ true) ⌝ }
-    ensures { λ r. ⌜ r ≡ hangs (live storeLine n lines) (view s) ⌝ }
+// The starts of the first n lines, to be searched.
+fn starts_of(lines: [Store; 64], n: usize) -> [u32; 64]
+    requires { ⌜ n ≤ 64 ⌝ }
+    ensures { λ r. ⌜ r ≡ startsOf (live storeLine n lines) ⌝ }
+{
+    let mut out: [u32; 64] = [0; 64];
+    let mut i: usize = 0;
+    while i < n {
+        let s = lines[i];
+        let k = s.id;
+        out[i] = k.0;
+        i += 1;
+    }
+    out
+}
+
+// A place of that number among the first n, found by halves; n where that finds none. On rising numbers it is the place of the first.
+fn half_start(starts: &[u32; 64], n: usize, id: StoreId) -> usize
+    requires { ⌜ (n ≤ 64) × (length (now starts) ≡ 64) ⌝ }
+    ensures { λ r. ⌜ Halved number (firstStarts n (now (starts .entry))) (id .0) r ⌝ }
+{
+    let mut lo: usize = 0;
+    let mut hi = n;
+    while lo < hi {
+        let mid = lo + (hi - lo) / 2;
+        let k = starts[mid];
+        if k == id.0 {
+            return mid;
+        }
+        if k < id.0 {
+            lo = mid + 1;
+        } else {
+            hi = mid;
+        }
+    }
+    n
+}
+
+// The line's parent is among the first n starts, which rise, and has a lower start; its total is at least 16.
+fn line_hangs(starts: &[u32; 64], n: usize, s: Store) -> bool
+    requires { ⌜ (n ≤ 64) × (length (now starts) ≡ 64) × (rising number (firstStarts n (now starts)) ≡ true) ⌝ }
+    ensures { λ r. ⌜ r ≡ hangsAmong (firstStarts n (now (starts .entry))) (view s) ⌝ }
 {
     let k = s.id;
     let p = s.parent;
-    if n <= half_place(lines, n, p) {
+    if n <= half_start(starts, n, p) {
         return false;
     }
     if k.0 <= p.0 {
@@ -307,14 +347,14 @@ fn line_hangs(lines: [Store; 64], n: usize, s: Store) -> bool
     Store::OVERHEAD <= s.total
 }
 
-// Rule 3 of the first n lines, which rise: each but the first hangs.
-fn lines_hang(lines: [Store; 64], n: usize) -> bool
-    requires { ⌜ (n ≤ 64) × (rising storeName (live storeLine n lines) ≡ true) ⌝ }
+// Rule 3 of the first n lines, which rise, with their starts: each but the first hangs.
+fn lines_hang(lines: [Store; 64], starts: &[u32; 64], n: usize) -> bool
+    requires { ⌜ (n ≤ 64) × (now starts ≡ startsOf (live storeLine n lines)) × (rising storeName (live storeLine n lines) ≡ true) ⌝ }
     ensures { λ r. ⌜ r ≡ all (hangs (live storeLine n lines)) (rest (live storeLine n lines)) ⌝ }
 {
     let mut i: usize = 1;
     while i < n {
-        if !line_hangs(lines, n, lines[i]) {
+        if !line_hangs(starts, n, lines[i]) {
             return false;
         }
         i += 1;
@@ -366,8 +406,8 @@ fn lies_in(c: Store, p: Store) -> bool
 
 // Each of the first n lines but the first, which all hang, lies in its parent, behind the parent's last child before it: where that ended is remembered
 // at the parent's place.
-fn lines_nest(lines: [Store; 64], n: usize) -> bool
-    requires { ⌜ (n ≤ 64) × (storesHang (live storeLine n lines) ≡ true) ⌝ }
+fn lines_nest(lines: [Store; 64], starts: &[u32; 64], n: usize) -> bool
+    requires { ⌜ (n ≤ 64) × (now starts ≡ startsOf (live storeLine n lines)) × (storesHang (live storeLine n lines) ≡ true) ⌝ }
     ensures { λ r. ⌜ r ≡ walk (live storeLine n lines) [] (rest (live storeLine n lines)) ⌝ }
 {
     let mut ends: [u64; 64] = [0; 64];
@@ -375,7 +415,7 @@ fn lines_nest(lines: [Store; 64], n: usize) -> bool
     while i < n {
         let c = lines[i];
         let k = c.id;
-        let j = half_place(lines, n, c.parent);
+        let j = half_start(starts, n, c.parent);
         let p = lines[j];
         if !lies_in(c, p) {
             return false;
@@ -565,13 +605,14 @@ impl Stores {
         if !lines_rise(lines, n) {
             return 3;
         }
-        if !lines_hang(lines, n) {
+        let starts = starts_of(lines, n);
+        if !lines_hang(lines, &starts, n) {
             return 3;
         }
         if !lines_fit(lines, n) {
             return 4;
         }
-        if !lines_nest(lines, n) {
+        if !lines_nest(lines, &starts, n) {
             return 4;
         }
         0

@@ -12,20 +12,21 @@ use Rattle.lines.specs.Others.{AllFrom, all-from-second, all-from-more, all-fro
 use Rattle.meaning.specs.Model.{storeName}
 use Rattle.meaning.specs.Rules.{hangs}
 use Rattle.stores.specs.Stores.{storeLine}
+use Rattle.stores.specs.Starts.{startsOf, starts-length, starts-rise, starts-hang}
 use Rattle.stores.proofs.lines_hang.Statement.{statement}
 use Rattle.stores.proofs.lines_hang.Tie as tie
 use Rattle.stores.proofs.line_hangs.Reads as line-hangs-reads
 
 abbrev Inv-loop : tie.InvT-loop
-Inv-loop n lines i₀ i =
-    (n ≤ 64) × (length lines ≡ 64) × (rising storeName (live storeLine n lines) ≡ true)
+Inv-loop starts n lines i₀ i =
+    (n ≤ 64) × (length lines ≡ 64) × (starts ≡ startsOf (live storeLine n lines)) × (rising storeName (live storeLine n lines) ≡ true)
     × AllFrom storeLine (hangs (live storeLine n lines)) n lines (all (hangs (live storeLine n lines)) (rest (live storeLine n lines))) i
 
 abbrev μ-loop : tie.MeasureT-loop
-μ-loop n lines i₀ i = n - i
+μ-loop starts n lines i₀ i = n - i
 
 loop-holds : tie.Need-loop-holds Inv-loop μ-loop
-loop-holds c = (search needs, search needs, c .pre .1, all-from-second storeLine _ _ (search needs) (hangs (live storeLine (c .args .n) (c .args .t1))))
+loop-holds c = (search needs, search needs, c .pre .1, c .pre .2, all-from-second storeLine _ _ (search needs) (hangs (live storeLine (c .args .n) (c .args .t1))))
 
 mul-line-hangs : tie.Need-mul-line-hangs Inv-loop μ-loop
 mul-line-hangs c = search needs
@@ -34,10 +35,14 @@ array-copy-out-line-hangs : tie.Need-array-copy-out-line-hangs Inv-loop μ-loop
 array-copy-out-line-hangs c = search needs
 
 line-hangs-requires : tie.Need-line-hangs-requires Inv-loop μ-loop
-line-hangs-requires c κs = (search needs, c .before .before .loop .inv .2)
+line-hangs-requires c κs =
+    let l = c .before .before .loop in
+    (search needs, starts-length _ _ (search needs) (search needs) _ (l .inv .2), starts-rise _ _ (search needs) (search needs) _ (l .inv .2) (l .inv .3))
 
 returns : tie.Need-returns Inv-loop μ-loop
-returns c = let l = c .before .before .before .before .loop in all-from-stop storeLine _ _ (search needs) _ _ (l .i) (search needs) _ (c .before .line-hangs .ensures) (not-true _ (c .if1 .taken)) (l .inv .3)
+returns c =
+    let l = c .before .before .before .before .loop in
+    all-from-stop storeLine _ _ (search needs) _ _ (l .i) (search needs) _ (starts-hang _ _ (search needs) (search needs) _ (l .inv .2) _ _ (c .before .line-hangs .ensures)) (not-true _ (c .if1 .taken)) (l .inv .4)
 
 add-i : tie.Need-add-i Inv-loop μ-loop
 add-i c = search needs
@@ -47,11 +52,16 @@ loop-less c = search needs
 
 loop-again : tie.Need-loop-again Inv-loop μ-loop
 loop-again c =
-    let l = c .before .before .before .before .loop in
-    (search needs, search needs, l .inv .2, all-from-more storeLine _ _ (search needs) _ _ (l .i) (search needs) _ (c .before .line-hangs .ensures) (not-false _ (c .if1 .left)) (l .inv .3))
+    let l = c .before .before .before .before .loop in (
+      search needs,
+      search needs,
+      l .inv .2,
+      l .inv .3,
+      all-from-more storeLine _ _ (search needs) _ _ (l .i) (search needs) _ (starts-hang _ _ (search needs) (search needs) _ (l .inv .2) _ _ (c .before .line-hangs .ensures)) (not-false _ (c .if1 .left)) (l .inv .4),
+    )
 
 returns-2 : tie.Need-returns-2 Inv-loop μ-loop
-returns-2 c = let l = c .before .loop in all-from-end storeLine _ _ (search needs) _ _ (l .i) (search needs) (l .inv .3)
+returns-2 c = let l = c .before .loop in all-from-end storeLine _ _ (search needs) _ _ (l .i) (search needs) (l .inv .4)
 
 pub lines-hang-spec : {M : Type 1} → statement M
 lines-hang-spec =

@@ -8,22 +8,24 @@ use lib.ListN.{length}
 use Rattle.lines.specs.Shape.{live}
 use Rattle.meaning.specs.Rules.{storesHang}
 use Rattle.stores.specs.Stores.{storeLine}
+use Rattle.stores.specs.Starts.{startsOf, starts-length, starts-halved}
 use Rattle.stores.specs.Steps.{Standing, pass-start, pass-end, parent-low, pass-out, pass-early, pass-more}
 use Rattle.stores.proofs.lines_nest.Statement.{statement}
 use Rattle.stores.proofs.lines_nest.Tie as tie
 use Rattle.stores.proofs.end_of.Reads as end-of-reads
-use Rattle.stores.proofs.half_place.Reads as half-place-reads
+use Rattle.stores.proofs.half_start.Reads as half-start-reads
 use Rattle.stores.proofs.lies_in.Reads as lies-in-reads
 
 abbrev Inv-loop : tie.InvT-loop
-Inv-loop n lines ends₀ i₀ ends i =
-    (1 ≤ i) × (n ≤ 64) × (length lines ≡ 64) × (length ends ≡ 64) × (storesHang (live storeLine n lines) ≡ true) × Standing (live storeLine n lines) i ends
+Inv-loop starts n lines ends₀ i₀ ends i =
+    (1 ≤ i) × (n ≤ 64) × (length lines ≡ 64) × (length ends ≡ 64) × (starts ≡ startsOf (live storeLine n lines)) × (storesHang (live storeLine n lines) ≡ true)
+    × Standing (live storeLine n lines) i ends
 
 abbrev μ-loop : tie.MeasureT-loop
-μ-loop n lines ends₀ i₀ ends i = n - i
+μ-loop starts n lines ends₀ i₀ ends i = n - i
 
 loop-holds : tie.Need-loop-holds Inv-loop μ-loop
-loop-holds c = (search needs, search needs, search needs, search needs, c .pre .1, pass-start _ _ (search needs) (search needs) _ refl)
+loop-holds c = (search needs, search needs, search needs, search needs, c .pre .1, c .pre .2, pass-start _ _ (search needs) (search needs) _ refl)
 
 mul-c : tie.Need-mul-c Inv-loop μ-loop
 mul-c c = search needs
@@ -31,19 +33,19 @@ mul-c c = search needs
 array-copy-out-c : tie.Need-array-copy-out-c Inv-loop μ-loop
 array-copy-out-c c = search needs
 
-half-place-requires : tie.Need-half-place-requires Inv-loop μ-loop
-half-place-requires c κs = search needs
+half-start-requires : tie.Need-half-start-requires Inv-loop μ-loop
+half-start-requires c κs = let l = c .before .before .before .loop in (search needs, starts-length _ _ (search needs) (search needs) _ (l .inv .4))
 
 mul-p : tie.Need-mul-p Inv-loop μ-loop
 mul-p c =
     let l = c .before .before .before .before .loop in
-    let h = parent-low _ _ (search needs) (l .inv .4) (l .i) (search needs) (search needs) _ (c .half-place .ensures) in
+    let h = parent-low _ _ (search needs) (l .inv .5) (l .i) (search needs) (search needs) _ (starts-halved _ _ (search needs) (search needs) _ (l .inv .4) _ _ (c .half-start .ensures)) in
     search needs
 
 array-copy-out-p : tie.Need-array-copy-out-p Inv-loop μ-loop
 array-copy-out-p c =
     let l = c .before .before .before .before .loop in
-    let h = parent-low _ _ (search needs) (l .inv .4) (l .i) (search needs) (search needs) _ (c .half-place .ensures) in
+    let h = parent-low _ _ (search needs) (l .inv .5) (l .i) (search needs) (search needs) _ (starts-halved _ _ (search needs) (search needs) _ (l .inv .4) _ _ (c .half-start .ensures)) in
     search needs
 
 lies-in-requires : tie.Need-lies-in-requires Inv-loop μ-loop
@@ -52,7 +54,7 @@ lies-in-requires c κs = search needs
 returns : tie.Need-returns Inv-loop μ-loop
 returns c =
     let l = c .before .before .before .before .before .before .before .loop in
-    pass-out _ _ (search needs) (l .inv .4) (l .i) (search needs) (search needs) _ (c .before .before .before .half-place .ensures) (l .ends) (l .inv .5) _ (c .before .lies-in .ensures) (not-true _ (c .if1 .taken))
+    pass-out _ _ (search needs) (l .inv .5) (l .i) (search needs) (search needs) _ (starts-halved _ _ (search needs) (search needs) _ (l .inv .4) _ _ (c .before .before .before .half-start .ensures)) (l .ends) (l .inv .6) _ (c .before .lies-in .ensures) (not-true _ (c .if1 .taken))
 
 cast-if2 : tie.Need-cast-if2 Inv-loop μ-loop
 cast-if2 c = search needs
@@ -60,19 +62,19 @@ cast-if2 c = search needs
 mul-if2 : tie.Need-mul-if2 Inv-loop μ-loop
 mul-if2 c =
     let l = c .before .before .before .before .before .before .before .before .loop in
-    let h = parent-low _ _ (search needs) (l .inv .4) (l .i) (search needs) (search needs) _ (c .before .before .before .before .half-place .ensures) in
+    let h = parent-low _ _ (search needs) (l .inv .5) (l .i) (search needs) (search needs) _ (starts-halved _ _ (search needs) (search needs) _ (l .inv .4) _ _ (c .before .before .before .before .half-start .ensures)) in
     search needs
 
 array-read-if2 : tie.Need-array-read-if2 Inv-loop μ-loop
 array-read-if2 c =
     let l = c .before .before .before .before .before .before .before .before .loop in
-    let h = parent-low _ _ (search needs) (l .inv .4) (l .i) (search needs) (search needs) _ (c .before .before .before .before .half-place .ensures) in
+    let h = parent-low _ _ (search needs) (l .inv .5) (l .i) (search needs) (search needs) _ (starts-halved _ _ (search needs) (search needs) _ (l .inv .4) _ _ (c .before .before .before .before .half-start .ensures)) in
     search needs
 
 returns-2 : tie.Need-returns-2 Inv-loop μ-loop
 returns-2 c =
     let l = c .before .before .before .before .before .before .before .before .before .loop in
-    pass-early _ _ (search needs) (l .inv .4) (l .i) (search needs) (search needs) _ (c .before .before .before .before .before .half-place .ensures) (l .ends) (l .inv .5) _ (c .before .before .before .lies-in .ensures) (not-false _ (c .before .before .if1 .left)) (c .if2 .taken)
+    pass-early _ _ (search needs) (l .inv .5) (l .i) (search needs) (search needs) _ (starts-halved _ _ (search needs) (search needs) _ (l .inv .4) _ _ (c .before .before .before .before .before .half-start .ensures)) (l .ends) (l .inv .6) _ (c .before .before .before .lies-in .ensures) (not-false _ (c .before .before .if1 .left)) (c .if2 .taken)
 
 end-of-requires : tie.Need-end-of-requires Inv-loop μ-loop
 end-of-requires c κs = search needs
@@ -80,13 +82,13 @@ end-of-requires c κs = search needs
 mul-ends : tie.Need-mul-ends Inv-loop μ-loop
 mul-ends c =
     let l = c .before .before .before .before .before .before .before .before .before .before .loop in
-    let h = parent-low _ _ (search needs) (l .inv .4) (l .i) (search needs) (search needs) _ (c .before .before .before .before .before .before .half-place .ensures) in
+    let h = parent-low _ _ (search needs) (l .inv .5) (l .i) (search needs) (search needs) _ (starts-halved _ _ (search needs) (search needs) _ (l .inv .4) _ _ (c .before .before .before .before .before .before .half-start .ensures)) in
     search needs
 
 array-write-ends : tie.Need-array-write-ends Inv-loop μ-loop
 array-write-ends c =
     let l = c .before .before .before .before .before .before .before .before .before .before .loop in
-    let h = parent-low _ _ (search needs) (l .inv .4) (l .i) (search needs) (search needs) _ (c .before .before .before .before .before .before .half-place .ensures) in
+    let h = parent-low _ _ (search needs) (l .inv .5) (l .i) (search needs) (search needs) _ (starts-halved _ _ (search needs) (search needs) _ (l .inv .4) _ _ (c .before .before .before .before .before .before .half-start .ensures)) in
     search needs
 
 add-i : tie.Need-add-i Inv-loop μ-loop
@@ -103,11 +105,12 @@ loop-again c =
       search needs,
       search needs,
       l .inv .4,
-      pass-more _ _ (search needs) (l .inv .4) (l .i) (search needs) (search needs) _ (c .before .before .before .before .before .before .half-place .ensures) (l .ends) (l .inv .5) _ (c .before .before .before .before .lies-in .ensures) (not-false _ (c .before .before .before .if1 .left)) (c .before .if2 .left) (search needs) _ (c .end-of .ensures),
+      l .inv .5,
+      pass-more _ _ (search needs) (l .inv .5) (l .i) (search needs) (search needs) _ (starts-halved _ _ (search needs) (search needs) _ (l .inv .4) _ _ (c .before .before .before .before .before .before .half-start .ensures)) (l .ends) (l .inv .6) _ (c .before .before .before .before .lies-in .ensures) (not-false _ (c .before .before .before .if1 .left)) (c .before .if2 .left) (search needs) _ (c .end-of .ensures),
     )
 
 returns-3 : tie.Need-returns-3 Inv-loop μ-loop
-returns-3 c = let l = c .before .loop in pass-end _ _ (search needs) (l .i) (l .ends) (search needs) (l .inv .5)
+returns-3 c = let l = c .before .loop in pass-end _ _ (search needs) (l .i) (l .ends) (search needs) (l .inv .6)
 
 pub lines-nest-spec : {M : Type 1} → statement M
 lines-nest-spec =
@@ -118,7 +121,7 @@ lines-nest-spec =
     loop-holds
     mul-c
     array-copy-out-c
-    half-place-requires
+    half-start-requires
     mul-p
     array-copy-out-p
     lies-in-requires

@@ -22,6 +22,7 @@ use Rattle.stores.proofs.lines_hang.Reads as lines-hang-reads
 use Rattle.stores.proofs.lines_nest.Reads as lines-nest-reads
 use Rattle.stores.proofs.lines_rise.Reads as lines-rise-reads
 use Rattle.stores.proofs.root_sound.Reads as root-sound-reads
+use Rattle.stores.proofs.starts_of.Reads as starts-of-reads
 
 long : (c : tie.Start) → length (c .args .self .lines) ≡ 64
 long c = search (needs, unmapped)
@@ -41,10 +42,10 @@ root-ok c = sym (c .before .root-sound .ensures) ∙ not-false _ (c .if1 .left)
 rise-ok : (c : tie.Else2) → rising storeName (lines (c .before .before .before .before)) ≡ true
 rise-ok c = sym (c .before .lines-rise .ensures) ∙ not-false _ (c .if2 .left)
 
-hang-ok : (c : tie.Else3) → storesHang (lines (c .before .before .before .before .before .before)) ≡ true
-hang-ok c = hang-all _ (rise-ok (c .before .before)) (sym (c .before .lines-hang .ensures) ∙ not-false _ (c .if3 .left))
+hang-ok : (c : tie.Else3) → storesHang (lines (c .before .before .before .before .before .before .before .before)) ≡ true
+hang-ok c = hang-all _ (rise-ok (c .before .before .before .before)) (sym (c .before .lines-hang .ensures) ∙ not-false _ (c .if3 .left))
 
-fit-ok : (c : tie.Else4) → all fits (lines (c .before .before .before .before .before .before .before .before)) ≡ true
+fit-ok : (c : tie.Else4) → all fits (lines (c .before .before .before .before .before .before .before .before .before .before)) ≡ true
 fit-ok c = sym (c .before .lines-fit .ensures) ∙ not-false _ (c .if4 .left)
 
 in-use-requires : tie.Need-in-use-requires
@@ -62,26 +63,29 @@ lines-rise-requires c κs = search needs
 returns-2 : tie.Need-returns-2
 returns-2 c = broken-3 _ _ (root-ok (c .before .before)) (hang-falling _ (sym (c .before .lines-rise .ensures) ∙ not-true _ (c .if2 .taken))) ∙ same (c .before .before .before .before)
 
+starts-of-requires : tie.Need-starts-of-requires
+starts-of-requires c κs = search needs
+
 lines-hang-requires : tie.Need-lines-hang-requires
-lines-hang-requires c κs = (search needs, rise-ok c)
+lines-hang-requires c κs = (search needs, c .before .starts-of .ensures, rise-ok (c .before .before))
 
 returns-3 : tie.Need-returns-3
-returns-3 c = broken-3 _ _ (root-ok (c .before .before .before .before)) (hang-loose _ (rise-ok (c .before .before)) (sym (c .before .lines-hang .ensures) ∙ not-true _ (c .if3 .taken))) ∙ same (c .before .before .before .before .before .before)
+returns-3 c = broken-3 _ _ (root-ok (c .before .before .before .before .before .before)) (hang-loose _ (rise-ok (c .before .before .before .before)) (sym (c .before .lines-hang .ensures) ∙ not-true _ (c .if3 .taken))) ∙ same (c .before .before .before .before .before .before .before .before)
 
 lines-fit-requires : tie.Need-lines-fit-requires
 lines-fit-requires c κs = search needs
 
 returns-4 : tie.Need-returns-4
-returns-4 c = broken-4 _ _ (root-ok (c .before .before .before .before .before .before)) (hang-ok (c .before .before)) (fit-over _ (hang-ok (c .before .before)) (sym (c .before .lines-fit .ensures) ∙ not-true _ (c .if4 .taken))) ∙ same (c .before .before .before .before .before .before .before .before)
+returns-4 c = broken-4 _ _ (root-ok (c .before .before .before .before .before .before .before .before)) (hang-ok (c .before .before)) (fit-over _ (hang-ok (c .before .before)) (sym (c .before .lines-fit .ensures) ∙ not-true _ (c .if4 .taken))) ∙ same (c .before .before .before .before .before .before .before .before .before .before)
 
 lines-nest-requires : tie.Need-lines-nest-requires
-lines-nest-requires c κs = (search needs, hang-ok (c .before .before))
+lines-nest-requires c κs = (search needs, c .before .before .before .before .before .before .starts-of .ensures, hang-ok (c .before .before .before))
 
 returns-5 : tie.Need-returns-5
-returns-5 c = broken-4 _ _ (root-ok (c .before .before .before .before .before .before .before .before)) (hang-ok (c .before .before .before .before)) (fit-astray _ (hang-ok (c .before .before .before .before)) (fit-ok (c .before .before)) (sym (c .before .lines-nest .ensures) ∙ not-true _ (c .if5 .taken))) ∙ same (c .before .before .before .before .before .before .before .before .before .before)
+returns-5 c = broken-4 _ _ (root-ok (c .before .before .before .before .before .before .before .before .before .before .before)) (hang-ok (c .before .before .before .before .before)) (fit-astray _ (hang-ok (c .before .before .before .before .before)) (fit-ok (c .before .before .before)) (sym (c .before .lines-nest .ensures) ∙ not-true _ (c .if5 .taken))) ∙ same (c .before .before .before .before .before .before .before .before .before .before .before .before .before)
 
 returns-6 : tie.Need-returns-6
-returns-6 c = broken-none _ _ (root-ok (c .before .before .before .before .before .before .before .before)) (hang-ok (c .before .before .before .before)) (fit-all _ (hang-ok (c .before .before .before .before)) (fit-ok (c .before .before)) (sym (c .before .lines-nest .ensures) ∙ not-false _ (c .if5 .left))) ∙ same (c .before .before .before .before .before .before .before .before .before .before)
+returns-6 c = broken-none _ _ (root-ok (c .before .before .before .before .before .before .before .before .before .before .before)) (hang-ok (c .before .before .before .before .before)) (fit-all _ (hang-ok (c .before .before .before .before .before)) (fit-ok (c .before .before .before)) (sym (c .before .lines-nest .ensures) ∙ not-false _ (c .if5 .left))) ∙ same (c .before .before .before .before .before .before .before .before .before .before .before .before .before)
 
 pub broken-rule-spec : {M : Type 1} → statement M
 broken-rule-spec =
@@ -92,6 +96,7 @@ broken-rule-spec =
     returns
     lines-rise-requires
     returns-2
+    starts-of-requires
     lines-hang-requires
     returns-3
     lines-fit-requires
