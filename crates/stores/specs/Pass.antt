@@ -1,5 +1,5 @@
 -- Rule 4 in one pass over the stores but the first, each compared with its parent and with where the parent's last child before it ended. `walk` is how the
--- code decides; no promise names it. Under rule 3 it is rule 4. Assumes nothing.
+-- code decides; no public promise names it. Under rule 3 it is rule 4. Assumes nothing.
 use mathlib.Core.Bool.{Bool, true, _&&_}
 use mathlib.Core.List.{List, [], _∷_, List·Memᴰ·head as here, List·Memᴰ·tail as there, List·Memᴰ·not-nil as nowhere, List·Memᴰ·cases-cons as cases-cons}
 use mathlib.Core.Logic.{Iff·rfl, inl, inr, ⊎-elim}

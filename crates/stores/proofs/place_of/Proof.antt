@@ -9,8 +9,6 @@ use Rattle.lines.specs.Search.{Sought, seek-start, seek-hit, seek-miss, seek-en
 use Rattle.stores.specs.Stores.{storeLine, isStore}
 use Rattle.stores.proofs.place_of.Statement.{statement}
 use Rattle.stores.proofs.place_of.Tie as tie
-use Rattle.stores.proofs.place_of.Reads as reads
-use Rattle.stores.proofs.place_of.Lts as lts
 
 abbrev Inv-loop : tie.InvT-loop
 Inv-loop n id lines i₀ i = (i ≤ n) × (n ≤ 64) × (length lines ≡ 64) × Sought (isStore (id .0)) (live storeLine n lines) i
