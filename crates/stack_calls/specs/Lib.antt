@@ -1,0 +1,2 @@
+pub mod StackCalls
+pub mod Runs
