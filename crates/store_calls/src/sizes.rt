@@ -1,0 +1,53 @@
+// Calls 1, 4, 5 and 6.
+ghost use mathlib.Core.List.{[]};
+ghost use mathlib.Core.Path.{_≡_};
+ghost use Rattle.names.specs.Numbers.{toldOf};
+ghost use Rattle.meaning.specs.Calls.{root, totalOf, usedOf, freeOf};
+ghost use Rattle.stores.specs.Stores.{reading as storesOf};
+ghost use Rattle.store_calls.specs.StoreCalls.{replied};
+use crate::lines::free_of;
+use names::Reply;
+use names::Report;
+use names::StoreId;
+use stores::Stores;
+
+// Call 1.
+pub fn root(stores: Stores) -> Reply
+    ensures { λ r. ⌜ toldOf r ≡ replied (storesOf stores) [] root ⌝ }
+{
+    let k = stores.root();
+    Reply::accepted(k.0)
+}
+
+// Call 4.
+pub fn total(stores: Stores, store: StoreId) -> Reply
+    ensures { λ r. ⌜ toldOf r ≡ replied (storesOf stores) [] (totalOf (store .0)) ⌝ }
+{
+    if !stores.has(store) {
+        return Reply::refused(Report::NoSuchStore);
+    }
+    let s = stores.line(store);
+    Reply::accepted(s.total)
+}
+
+// Call 5.
+pub fn used(stores: Stores, store: StoreId) -> Reply
+    ensures { λ r. ⌜ toldOf r ≡ replied (storesOf stores) [] (usedOf (store .0)) ⌝ }
+{
+    if !stores.has(store) {
+        return Reply::refused(Report::NoSuchStore);
+    }
+    let s = stores.line(store);
+    Reply::accepted(s.used)
+}
+
+// Call 6.
+pub fn free(stores: Stores, store: StoreId) -> Reply
+    ensures { λ r. ⌜ toldOf r ≡ replied (storesOf stores) [] (freeOf (store .0)) ⌝ }
+{
+    if !stores.has(store) {
+        return Reply::refused(Report::NoSuchStore);
+    }
+    let s = stores.line(store);
+    Reply::accepted(free_of(s))
+}
