@@ -17,17 +17,19 @@ pub struct Roomed {
 pub fn refused(same: Stores, report: Report) -> Roomed
     ensures { λ r. ⌜ r ≡ record { stores = same; reply = record { report = report; value = 0 } } ⌝ }
 {
+    let reply = Reply::refused(report);
     Roomed {
         stores: same,
-        reply: Reply::refused(report),
+        reply,
     }
 }
 
 pub fn accepted(changed: Stores, value: u32) -> Roomed
     ensures { λ r. ⌜ r ≡ record { stores = changed; reply = record { report = Report.Accepted; value = value } } ⌝ }
 {
+    let reply = Reply::accepted(value);
     Roomed {
         stores: changed,
-        reply: Reply::accepted(value),
+        reply,
     }
 }
