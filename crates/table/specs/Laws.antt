@@ -5,9 +5,10 @@ use mathlib.Core.Logic.{_↔_}
 use mathlib.Core.Path.{_≡_, refl, sym, _∙_}
 use Prim.Native.Nat.{ℕ}
 use lib.Dec.{eqb}
+use borrow.Author.Tests.{eqb-true, eq-eqb}
 use lib.ListN.{length}
 use Rattle.lists.specs.Choice.{if_then_else_}
-use Rattle.lists.specs.Tests.{and-iff, reflect}
+use Rattle.lists.specs.Tests.{same-test, and-iff, reflect}
 use Rattle.meaning.specs.Laws.Step.{none-given, given-none}
 use Rattle.meaning.specs.Model.{Model, tableLimits}
 use Rattle.meaning.specs.Rules.{rule1, rule2, rule3, rule4, rule5, rule6, rule7, sound}
@@ -98,3 +99,6 @@ broken-none t = (
       none-given _
       (simp reflect (f .0 .0 .0 .0 .0 .0 .0, (f .0 .0 .0 .0 .0 .0 .1, (f .0 .0 .0 .0 .0 .1, (f .0 .0 .0 .0 .1, (f .0 .0 .0 .1, (f .0 .0 .1, (f .0 .1, (f .1, refl))))))))),
 )
+
+pub sound-unbroken : (t : Table) → eqb (brokenRule t) 0 ≡ soundTable t
+sound-unbroken t = same-test _ _ (λ e. broken-none t .0 (eqb-true _ _ e)) (λ e. eq-eqb _ _ (broken-none t .1 e))

@@ -1,6 +1,13 @@
 // The table that the board holds, and whether it is sound.
 ghost use mathlib.Core.Path.{_≡_};
-ghost use Rattle.table.specs.Table.{allClean, brokenRule};
+ghost use Rattle.table.specs.Table.{allClean, brokenRule, soundTable};
+
+mod answer;
+mod stack;
+mod store;
+mod thread;
+
+pub use answer::Answer;
 use names::Area;
 use stacks::Stacks;
 use stores::Stores;
@@ -20,6 +27,13 @@ pub struct Table {
 }
 
 impl Table {
+    // Every call but a start asks this first.
+    pub fn is_sound(self) -> bool
+        ensures { λ r. ⌜ r ≡ soundTable self ⌝ }
+    {
+        self.broken_rule() == 0
+    }
+
     // The lowest of the eight rules that is broken, 0 if none.
     pub fn broken_rule(self) -> u32
         ensures { λ r. ⌜ r ≡ brokenRule self ⌝ }

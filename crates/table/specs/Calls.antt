@@ -1,0 +1,46 @@
+-- A call on a table, as document 01 has it: what the manager promises of each of its sixteen calls. Assumes nothing.
+use mathlib.Core.Bool.{not, _&&_}
+use Prim.Native.Nat.{ℕ}
+use lib.Dec.{eqb}
+use Rattle.lists.specs.Choice.{if_then_else_}
+use Rattle.names.specs.Numbers.{numberOf}
+use Rattle.meaning.specs.Model.{Bytes}
+use Rattle.meaning.specs.Calls.{Call, code, Outcome, step}
+use Rattle.table.specs.declared.Table.{Table}
+use Rattle.table.specs.declared.answer.Answer.{Answer}
+use Rattle.table.specs.Table.{reading, written, soundTable}
+
+-- what a call gives: the table after it, report, value, the steps that call 7 tells, and the lent bytes after it
+pub record Called : Type 0 where
+  pub table : Table
+  pub report : ℕ
+  pub value : ℕ
+  pub steps : ℕ
+  pub bytes : Bytes
+
+-- an unsound table: report 16, value 0, the same table and the same bytes
+abbrev pub unsound : Table → Bytes → Called
+unsound t bs = record { table = t; report = 16; value = 0; steps = 0; bytes = bs }
+
+-- what the meaning gives: an accepted call writes the new model as a table, a refused one leaves the table as it was
+abbrev pub settled : Table → Outcome → Called
+settled t o =
+    record { table = if eqb (o .report) 0 then written (o .model) else t; report = o .report; value = o .value; steps = o .steps; bytes = o .bytes }
+
+-- "Every call but 0 first checks soundness (16)"; the rest is the meaning's, on what the table reads as.
+unfoldable pub called : Table → Bytes → Call → Called
+called t bs c = if not (eqb (code c) 0) && not (soundTable t) then unsound t bs else settled t (step (reading t) bs c)
+
+-- ---- an answer of the code, in document 01's numbers
+
+pub record Seen : Type 0 where
+  pub table : Table
+  pub report : ℕ
+  pub value : ℕ
+
+abbrev pub seen : Answer → Seen
+seen a = record { table = a .table; report = numberOf (a .report); value = a .value }
+
+-- the answer that a call is to give
+abbrev pub answer : Called → Seen
+answer o = record { table = o .table; report = o .report; value = o .value }
