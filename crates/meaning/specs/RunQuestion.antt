@@ -4,6 +4,7 @@ use mathlib.Core.Bool.{Bool, not, _&&_, _||_}
 use mathlib.Core.List.{List, [], _∷_}
 use Prim.Native.Nat.{ℕ, _+_, _-_}
 use lib.Dec.{leb, eqb}
+use lib.ListN.{take, drop}
 use Rattle.lists.specs.Choice.{if_then_else_}
 use Rattle.meaning.specs.Model.{Run, Model, Bytes, end, _holds_}
 use Rattle.meaning.specs.Rules.{sound}
@@ -23,21 +24,34 @@ pub record Part : Type 0 where
 abbrev pub whollyIn : Run → ℕ → ℕ → Bool
 whollyIn area a n = (area holds a) && leb (a + n) (end area)
 
--- "Order 16, 15, 9."
-unfoldable pub runChecks : Model → Bytes → Bytes → ℕ → ℕ → List Check
-runChecks m stores stacks a n =
-    16 when not (sound m)
-    ∷ 15 when (notTheLength (m .storeArea) stores || notTheLength (m .stackArea) stacks)
-    ∷ 9 when not (whollyIn (m .storeArea) a n || whollyIn (m .stackArea) a n) ∷ []
+-- "Order 16, 15, 9.": what is asked of the areas, once the table is sound
+unfoldable pub areaChecks : Run → Run → Bytes → Bytes → ℕ → ℕ → List Check
+areaChecks storeArea stackArea stores stacks a n =
+    15 when (notTheLength storeArea stores || notTheLength stackArea stacks)
+    ∷ 9 when not (whollyIn storeArea a n || whollyIn stackArea a n) ∷ []
 
 -- "the report comes from a second question with the same arguments"
 unfoldable pub runReport : Model → Bytes → Bytes → ℕ → ℕ → ℕ
-runReport m stores stacks a n = firstReport (runChecks m stores stacks a n)
+runReport m stores stacks a n = firstReport (16 when not (sound m) ∷ areaChecks (m .storeArea) (m .stackArea) stores stacks a n)
+
+-- the run, as a part of the area that holds its first address
+unfoldable pub partOf : Run → Run → ℕ → ℕ → Part
+partOf storeArea stackArea a n =
+    if storeArea holds a then record { area = ofStores; offset = a - storeArea .start; length = n }
+    else record { area = ofStacks; offset = a - stackArea .start; length = n }
+
+abbrev pub emptyPart : Part
+emptyPart = record { area = ofStores; offset = 0; length = 0 }
 
 -- "it returns that run itself as a part of the area it is in"; "A refusal returns an empty part"
 unfoldable pub runPart : Model → Bytes → Bytes → ℕ → ℕ → Part
-runPart m stores stacks a n =
-    if eqb (runReport m stores stacks a n) 0 then
-    (if m .storeArea holds a then record { area = ofStores; offset = a - m .storeArea .start; length = n }
-    else record { area = ofStacks; offset = a - m .stackArea .start; length = n })
-    else record { area = ofStores; offset = 0; length = 0 }
+runPart m stores stacks a n = if eqb (runReport m stores stacks a n) 0 then partOf (m .storeArea) (m .stackArea) a n else emptyPart
+
+-- of two things, the one of that area
+abbrev pub lentOf : {A : Type 0} → Lent → A → A → A
+lentOf ofStores x y = x
+lentOf ofStacks x y = y
+
+-- the bytes of a part
+abbrev pub partBytes : Part → Bytes → Bytes → Bytes
+partBytes p stores stacks = take (p .length) (drop (p .offset) (lentOf (p .area) stores stacks))

@@ -6,8 +6,10 @@ use Rattle.lists.specs.Choice.{if_then_else_}
 use Rattle.names.specs.Numbers.{numberOf}
 use Rattle.meaning.specs.Model.{Bytes}
 use Rattle.meaning.specs.Calls.{Call, code, Outcome, step}
+use Rattle.meaning.specs.RunQuestion.{Part, runReport, runPart, emptyPart}
 use Rattle.table.specs.declared.Table.{Table}
 use Rattle.table.specs.declared.answer.Answer.{Answer}
+use Rattle.table.specs.declared.answer.Found.{Found}
 use Rattle.table.specs.Table.{reading, written, soundTable}
 
 -- what a call gives: the table after it, report, value, the steps that call 7 tells, and the lent bytes after it
@@ -31,6 +33,16 @@ settled t o =
 unfoldable pub called : Table → Bytes → Call → Called
 called t bs c = if not (eqb (code c) 0) && not (soundTable t) then unsound t bs else settled t (step (reading t) bs c)
 
+-- ---- the run question
+
+-- its report: 16 on an unsound table, else the meaning's
+unfoldable pub runNumber : Table → Bytes → Bytes → ℕ → ℕ → ℕ
+runNumber t stores stacks a n = if soundTable t then runReport (reading t) stores stacks a n else 16
+
+-- its part: empty on an unsound table, else the meaning's
+unfoldable pub tableRun : Table → Bytes → Bytes → ℕ → ℕ → Part
+tableRun t stores stacks a n = if soundTable t then runPart (reading t) stores stacks a n else emptyPart
+
 -- ---- an answer of the code, in document 01's numbers
 
 pub record Seen : Type 0 where
@@ -44,3 +56,16 @@ seen a = record { table = a .table; report = numberOf (a .report); value = a .va
 -- the answer that a call is to give
 abbrev pub answer : Called → Seen
 answer o = record { table = o .table; report = o .report; value = o .value }
+
+-- an answer of find, which carries the steps
+pub record SeenFound : Type 0 where
+  pub table : Table
+  pub report : ℕ
+  pub value : ℕ
+  pub steps : ℕ
+
+abbrev pub seenFound : Found → SeenFound
+seenFound f = record { table = f .table; report = numberOf (f .report); value = f .value; steps = f .steps }
+
+abbrev pub foundAnswer : Called → SeenFound
+foundAnswer o = record { table = o .table; report = o .report; value = o .value; steps = o .steps }

@@ -4,9 +4,7 @@ use mathlib.Core.List.{[]}
 use mathlib.Core.Path.{_≡_, refl, sym, _∙_, ap}
 use Prim.Native.Nat.{ℕ}
 use Rattle.meaning.specs.Facts.{Sound}
-use Rattle.meaning.specs.Reading.{runOf}
-use Rattle.meaning.specs.Reports.{firstReport}
-use Rattle.meaning.specs.Calls.{Call, root, contextOf, setContext, totalOf, usedOf, freeOf, allocate, makeStore, clear, resize, makeStack, destroyStack, addThread, removeThread, checks, change, row}
+use Rattle.meaning.specs.Calls.{root, contextOf, setContext, totalOf, usedOf, freeOf, makeStore, clear, resize, makeStack, destroyStack, addThread, removeThread, checks, change, row}
 use Rattle.meaning.specs.Laws.Agree.{sound-agrees}
 use Rattle.stores.specs.Stores.{reading as storesOf}
 use Rattle.threads.specs.Threads.{reading as threadsOf, written as threadsWritten}
@@ -18,10 +16,10 @@ use Rattle.table.specs.Table.{reading, soundTable}
 use Rattle.table.specs.Laws.{Sized}
 use Rattle.table.specs.Calls.{called, answer}
 use Rattle.table.specs.Ways.{replyOf, withThreadsOf, withStoresOf, withStacksOf, model-sound, called-sound, question-way, threads-way, stores-way, stacks-way}
-use Rattle.table.specs.Fits.{allocate-fits, make-store-fits, resize-fits, make-stack-fits, destroy-stack-fits}
+use Rattle.table.specs.Fits.{make-store-fits, resize-fits, make-stack-fits, destroy-stack-fits}
 
 module _ (t : Table) (n : Sized t) (h : soundTable t ≡ true) where
-  is-sound : Sound (reading t)
+  pub is-sound : Sound (reading t)
   is-sound = sound-agrees (reading t) .0 (model-sound t n h)
 
   -- ---- calls 1, 2, 4, 5, 6: questions

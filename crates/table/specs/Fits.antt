@@ -2,12 +2,11 @@
 use mathlib.Core.Bool.{true, _&&_}
 use mathlib.Core.List.{[]}
 use mathlib.Core.Logic.{inl, inr, ⊎-elim}
-use mathlib.Core.Path.{_≡_, refl, sym, _∙_, ap}
-use Prim.Native.Nat.{ℕ, _+_, _-_, _<_, _≤_, min}
+use mathlib.Core.Path.{_≡_, refl}
+use Prim.Native.Nat.{ℕ, _+_, _-_, _≤_}
 use native.Mathlib.Omega.{arith}
 use lib.Dec.{eqb}
 use Rattle.lists.specs.Tests.{tested, reflect}
-use Rattle.lists.specs.Keyed.{has}
 use Rattle.lists.specs.KeyedLaws.{has-iff, at-member}
 use Rattle.meaning.specs.Model.{Model, Bytes, end, whole, freePart, storeName, stackName, listed, noSuchStack, storeOf, stackOf, stackRun}
 use Rattle.meaning.specs.Nesting.{parentIn}

@@ -4,3 +4,6 @@ pub mod Calls
 pub mod Ways
 pub mod Fits
 pub mod EachCall
+pub mod Lent
+pub mod Started
+pub mod Finding

@@ -1,11 +1,10 @@
 -- From the calls on the lists to the calls on the table: on a sound table, what a call on some lists gives, put back into the table, is the call's answer.
 -- Assumes nothing.
-use mathlib.Core.Bool.{Bool, true, false, not, _&&_}
-use mathlib.Core.List.{List, [], _∷_}
+use mathlib.Core.Bool.{Bool, true, false, _&&_}
+use mathlib.Core.List.{List, []}
 use mathlib.Core.Logic.{inl, inr}
-use mathlib.Core.Path.{_≡_, refl, sym, _∙_, ap}
+use mathlib.Core.Path.{_≡_}
 use Prim.Native.Nat.{ℕ}
-use native.Mathlib.Omega.{arith}
 use lib.Dec.{eqb}
 use borrow.Author.Tests.{eqb-true}
 use Rattle.lists.specs.Choice.{if_then_else_}
@@ -13,9 +12,8 @@ use Rattle.lists.specs.Tests.{tested, and-iff}
 use Rattle.meaning.specs.Model.{Store, Thread, Stack, Run, Model, Bytes}
 use Rattle.meaning.specs.Rules.{sound}
 use Rattle.meaning.specs.Changes.{withStores, withThreads, withStacks}
-use Rattle.meaning.specs.Reading.{areaOf}
 use Rattle.meaning.specs.Reports.{Check, firstReport}
-use Rattle.meaning.specs.Calls.{Call, code, Outcome, accepted, decide, row}
+use Rattle.meaning.specs.Calls.{Call, code, accepted, decide, row}
 use Rattle.meaning.specs.Laws.Step.{sound-row}
 use Rattle.names.specs.Numbers.{Told}
 use Rattle.names.specs.declared.lines.Area.{Area}
@@ -31,7 +29,7 @@ use Rattle.stack_calls.specs.StackCalls as stackCalls
 use Rattle.table.specs.declared.Table.{Table}
 use Rattle.table.specs.Table.{reading, written, rule8, soundTable}
 use Rattle.table.specs.Laws.{Sized}
-use Rattle.table.specs.Calls.{Called, Seen, unsound, settled, called, answer}
+use Rattle.table.specs.Calls.{Seen, unsound, settled, called, answer}
 
 -- ---- what a call on lists gives, put back into the table
 
@@ -88,6 +86,14 @@ module _ (t : Table) (n : Sized t) (h : soundTable t ≡ true) where
   same-stacks = stacks-written (t .stacks) (n .stacks) (cleans .2)
 
   -- ---- questions: what is told, and the same table
+
+  pub same-table : (ks : List Check) (v k : ℕ) (bs : Bytes) →
+      settled t (decide ks (reading t) bs (record { report = 0; value = v; steps = k; model = reading t; bytes = bs })) .table ≡ t
+  unfolding written reading
+  same-table ks v k bs = elim (tested (eqb (firstReport ks) 0)) [
+    | inl e ↦ rw (e, same-stores, same-threads, same-stacks)
+    | inr e ↦ rw (e, e)
+  ]
 
   pub question-way : (ks : List Check) (m : Model) (v : ℕ) (bs : Bytes) →
       let o = decide ks m [] (accepted v m []) in

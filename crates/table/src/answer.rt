@@ -16,6 +16,14 @@ pub struct Answer {
     pub value: u32,
 }
 
+// What find hands back: the number of parent-to-child steps from the root to the answer too.
+pub struct Found {
+    pub table: Table,
+    pub report: Report,
+    pub value: u32,
+    pub steps: u32,
+}
+
 // A refusal: the same table, and no value.
 pub fn refused(same: Table, report: Report) -> Answer
     ensures { λ r. ⌜ seen r ≡ record { table = same; report = numberOf report; value = 0 } ⌝ }

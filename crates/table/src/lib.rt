@@ -3,11 +3,15 @@ ghost use mathlib.Core.Path.{_≡_};
 ghost use Rattle.table.specs.Table.{allClean, brokenRule, soundTable};
 
 mod answer;
+mod find;
+mod lent;
 mod stack;
+mod start;
 mod store;
 mod thread;
 
 pub use answer::Answer;
+pub use answer::Found;
 use names::Area;
 use stacks::Stacks;
 use stores::Stores;

@@ -1,0 +1,5 @@
+pub mod Decimal
+pub mod DecimalLaws
+pub mod Text
+pub mod TextLaws
+pub mod Examples

@@ -1,0 +1,4 @@
+pub mod Records
+pub mod Laws
+pub mod Examples
+pub mod Decoded

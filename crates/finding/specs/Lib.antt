@@ -1,0 +1,3 @@
+pub mod Descent
+pub mod Steps
+pub mod Right
