@@ -3,7 +3,6 @@
 -- Proof1.antt proves the rest. Assumes nothing.
 use mathlib.Core.Bool.{Bool, true, false, not}
 use mathlib.Core.Path.{_≡_}
-use Prim.Native.Nat.{ℕ}
 use lib.Dec.{ltb}
 use Rattle.names.specs.Numbers.{numberOf}
 use Rattle.names.specs.Overhead.{blockTaken, storeTaken, stackTaken}

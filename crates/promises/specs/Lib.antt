@@ -4,3 +4,6 @@ pub mod Demand1
 pub mod Proof1
 pub mod Demand2
 pub mod Proof2
+pub mod Demand3
+pub mod Follow
+pub mod Proof3

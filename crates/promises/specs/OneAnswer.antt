@@ -16,8 +16,8 @@ use Rattle.meaning.specs.Reports.{Check, firstReport}
 use Rattle.meaning.specs.Calls.{Call, start, root, contextOf, setContext, totalOf, usedOf, freeOf, find, allocate, makeStore, clear, resize, makeStack, destroyStack, addThread, removeThread, code, accepted, checks, change, allChecks, decide, step}
 use Rattle.table.specs.declared.Table.{Table}
 use Rattle.table.specs.Table.{reading, soundTable}
-use Rattle.table.specs.Calls.{Called, Seen, unsound, settled, called, answer}
-use Rattle.promises.specs.Handed.{Given, inNumbers, ByAnswer, ByFind, ByAllocate, Handed}
+use Rattle.table.specs.Calls.{Called, unsound, settled, called, answer}
+use Rattle.promises.specs.Handed.{Given, inNumbers, ByAnswer, Handed}
 
 -- a report by its number
 unfoldable pub reportOf : ℕ → Report
@@ -84,7 +84,7 @@ module _ (t : Table) (bs : Bytes) where
   by-answer : (c : Call) (g : Given) → LentNothing t bs c → ByAnswer t bs c g → inNumbers g ≡ called t bs c
   by-answer c g same p =
       let given : inNumbers g ≡ record { table = called t [] c .table; report = called t [] c .report; value = called t [] c .value; steps = 0; bytes = bs } =
-        λ i. record { table = p .told i .table; report = p .told i .report; value = p .told i .value; steps = p .steps i; bytes = p .bytes i } in
+      λ i. record { table = p .told i .table; report = p .told i .report; value = p .told i .value; steps = p .steps i; bytes = p .bytes i } in
       given ∙ sym same
 
   -- What the method of a call hands back is the call on the table.
@@ -100,7 +100,7 @@ module _ (t : Table) (bs : Bytes) where
   handed-called (find a) g h =
       let o = called t [] (find a) in
       let given : inNumbers g ≡ record { table = o .table; report = o .report; value = o .value; steps = o .steps; bytes = bs } =
-        λ i. record { table = h .told i .table; report = h .told i .report; value = h .told i .value; steps = h .told i .steps; bytes = h .bytes i } in
+      λ i. record { table = h .told i .table; report = h .told i .report; value = h .told i .value; steps = h .told i .steps; bytes = h .bytes i } in
       given ∙ sym (found-same t (forged (find a)) (allChecks (reading t) bs (find a)) _ _ bs)
   handed-called (allocate x n) g h =
       let none = sym (no-steps t (forged (allocate x n)) (allChecks (reading t) bs (allocate x n)) _ _ bs _) in

@@ -1,29 +1,28 @@
 -- Demand 1 holds of all that the methods hand back. Assumes nothing.
 use mathlib.Core.Bool.{Bool, true, false}
-use mathlib.Core.Logic.{inl, inr, ⊎-elim}
+use mathlib.Core.Logic.{⊎-elim}
 use mathlib.Core.Path.{_≡_, refl, sym, _∙_, ap}
 use Prim.Native.Nat.{ℕ, _+_, _≤_}
 use native.Mathlib.Omega.{arith}
-use lib.Dec.{ltb, eqb}
-use borrow.Author.Tests.{ltb-true, le-ltb, ne-eqb}
+use lib.Dec.{eqb}
+use borrow.Author.Tests.{ne-eqb}
 use Rattle.lists.specs.Choice.{if_then_else_}
 use Rattle.lists.specs.Tests.{never, not-false-iff, reflect}
 use Rattle.lists.specs.Keyed.{has}
 use Rattle.lists.specs.KeyedLaws.{at-key, at-member, has-iff}
 use Rattle.names.specs.Numbers.{numberOf}
-use Rattle.names.specs.Overhead.{storeTaken}
 use Rattle.meaning.specs.Model.{Model, Bytes, free, storeName, noSuchStore, storeOf, rootOf}
 use Rattle.meaning.specs.Nesting.{parentIn}
 use Rattle.meaning.specs.Rules.{areasSound}
 use Rattle.meaning.specs.Facts.{Sound}
-use Rattle.meaning.specs.Reports.{contextStore, parentStore}
+use Rattle.meaning.specs.Reports.{parentStore}
 use Rattle.meaning.specs.Calls.{Call, start, root, contextOf, setContext, totalOf, usedOf, freeOf, find, allocate, makeStore, clear, resize, makeStack, destroyStack, addThread, removeThread, code, Outcome, refused, checks, allChecks, step}
 use Rattle.meaning.specs.Laws.Step.{accepted-exact, accepted-sound, step-refused}
 use Rattle.meaning.specs.Laws.Nested.{root-or-other}
 use Rattle.meaning.specs.Laws.Within.{store-within, store-fits, context-listed}
 use Rattle.table.specs.declared.Table.{Table}
-use Rattle.table.specs.Table.{reading, written, soundTable}
-use Rattle.table.specs.Calls.{Called, unsound, settled, called}
+use Rattle.table.specs.Table.{reading, written}
+use Rattle.table.specs.Calls.{unsound, settled, called}
 use Rattle.table.specs.Ways.{called-unsound}
 use Rattle.promises.specs.Handed.{Given, inNumbers, Handed}
 use Rattle.promises.specs.OneAnswer.{forged, handed-called}
@@ -112,7 +111,7 @@ demand1 t bs c g h =
     let e = handed-called t bs c g h in
     let same : numberOf (g .report) ≡ called t bs c .report = ap (λ o. o .report) e in
     let left : Refused g → inNumbers g ≡ record { table = t; report = called t bs c .report; value = 0; steps = 0; bytes = bs } =
-      λ r. e ∙ called-refused t bs c (λ z. r (same ∙ z)) in
+    λ r. e ∙ called-refused t bs c (λ z. r (same ∙ z)) in
     record {
       forged = λ u n. same ∙ ap (λ o. o .report) (called-unsound t bs c (ne-eqb (code c) 0 n) u);
       size = λ i z. never (impossible (reading t) c) i (possible (reading t) bs c (called-accepted t bs c (sym same ∙ z)));

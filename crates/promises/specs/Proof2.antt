@@ -2,7 +2,7 @@
 use mathlib.Core.Bool.{true, false, not, _&&_}
 use mathlib.Core.List.{List, _∷_}
 use mathlib.Core.Logic.{_↔_, _⊎_, inl, inr}
-use mathlib.Core.Path.{_≡_, refl, sym, _∙_, ap}
+use mathlib.Core.Path.{_≡_, sym, _∙_, ap}
 use Prim.Native.Nat.{ℕ}
 use lib.Dec.{eqb}
 use borrow.Author.Tests.{eq-eqb}
@@ -11,16 +11,16 @@ use Rattle.names.specs.Numbers.{numberOf}
 use Rattle.meaning.specs.Model.{Bytes}
 use Rattle.meaning.specs.Rules.{sound}
 use Rattle.meaning.specs.Reports.{Check}
-use Rattle.meaning.specs.Calls.{Call, code, checks, change, allChecks, step}
+use Rattle.meaning.specs.Calls.{Call, code, checks, allChecks, step}
 use Rattle.meaning.specs.Laws.Step.{First, here, later, NoneHolds, report-exact, accepted-exact, step-accepted}
 use Rattle.table.specs.declared.Table.{Table}
 use Rattle.table.specs.Table.{reading, written, soundTable}
 use Rattle.table.specs.Laws.{Sized, broken-none}
-use Rattle.table.specs.Calls.{Called, settled, called}
+use Rattle.table.specs.Calls.{settled, called}
 use Rattle.sound_tables.specs.SoundTables.{accepted-table-sound}
-use Rattle.promises.specs.Handed.{Given, inNumbers, Handed}
+use Rattle.promises.specs.Handed.{Given, Handed}
 use Rattle.promises.specs.OneAnswer.{handed-called}
-use Rattle.promises.specs.Demand2.{changed, Demand2}
+use Rattle.promises.specs.Demand2.{Demand2}
 
 -- a check whose condition does not hold plays no part
 past-first : {r : ℕ} {k : Check} {ks : List Check} → k .condition ≡ false → First r (k ∷ ks) → First r ks
@@ -40,7 +40,7 @@ module _ (t : Table) (bs : Bytes) (c : Call) (asked : (code c ≡ 0) ⊎ (soundT
   ]
 
   -- the call is the meaning's
-  called-meant : called t bs c ≡ settled t (step (reading t) bs c)
+  pub called-meant : called t bs c ≡ settled t (step (reading t) bs c)
   unfolding called
   called-meant = elim asked [
     | inl z ↦ rw (eq-eqb (code c) 0 z)
@@ -69,7 +69,7 @@ demand2 t n bs c g h asked =
     let refused = meant-refused t bs c asked in
     let accepted = meant-accepted t bs c asked in
     let written-there : numberOf (g .report) ≡ 0 → g .table ≡ written (step (reading t) bs c .model) =
-      λ z. ap (λ o. o .table) e ∙ rw (eq-eqb (step (reading t) bs c .report) 0 (sym same ∙ z)) in
+    λ z. ap (λ o. o .table) e ∙ rw (eq-eqb (step (reading t) bs c .report) 0 (sym same ∙ z)) in
     record {
       refused = λ r k. (λ q. refused r k .0 (sym same ∙ q), λ f. same ∙ refused r k .1 f);
       accepted = (λ q. accepted .0 (sym same ∙ q), λ f. same ∙ accepted .1 f);

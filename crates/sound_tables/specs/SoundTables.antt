@@ -4,7 +4,7 @@ use mathlib.Core.Bool.{true}
 use mathlib.Core.Path.{_≡_, refl, _∙_, ap}
 use native.Mathlib.Omega.{arith}
 use Rattle.lists.specs.Tests.{and-iff}
-use Rattle.lines.specs.Shape.{live-length}
+use Rattle.lines.specs.Shape.{live-length, pad-length}
 use Rattle.meaning.specs.Model.{Model, Bytes, tableLimits}
 use Rattle.meaning.specs.Facts.{Sound}
 use Rattle.meaning.specs.Rules.{sound}
@@ -53,3 +53,16 @@ pub accepted-table-sound : (t : Table) → Sized t → (bs : Bytes) (c : Call) �
 accepted-table-sound t n bs c h =
     broken-none _ .1
     (written-sound (step (reading t) bs c .model) (limits-stay (reading t) bs c ∙ table-limits t) (fits-stay (reading t) bs c (reading-fits t n)) (accepted-gives-sound (reading t) bs c h))
+
+-- Its arrays are as long as they are declared.
+pub accepted-table-sized : (t : Table) → Sized t → (bs : Bytes) (c : Call) → Sized (written (step (reading t) bs c .model))
+unfolding written Stores.written Threads.written Stacks.written
+accepted-table-sized t n bs c =
+    let m = step (reading t) bs c .model in
+    let f = fits-stay (reading t) bs c (reading-fits t n) in
+    let e = limits-stay (reading t) bs c ∙ table-limits t in
+    record {
+      stores = pad-length Stores.storeLine (m .stores) (omega (arith, f .stores, ap (λ l. l .stores) e));
+      threads = pad-length Threads.threadLine (m .threads) (omega (arith, f .threads, ap (λ l. l .threads) e));
+      stacks = pad-length Stacks.stackLine (m .stacks) (omega (arith, f .stacks, ap (λ l. l .stacks) e));
+    }
