@@ -18,6 +18,10 @@ use Rattle.lines.specs.Opened.{opened}
 pub unmapped : {X Y : Type 0} (f : X → Y) (l : List X) (n : ℕ) → length (map f l) ≡ n → length l ≡ n
 unmapped f l n e = sym (length-map l f) ∙ e
 
+-- as many lines as the list is long are as many as the count reads
+pub count-read : {A B : Type 0} (σ : Shape A B) (count n : ℕ) (ls : List A) → length ls ≡ σ .limit → n ≡ length (live σ count ls) → n ≡ min count (σ .limit)
+count-read σ count n ls long e = e ∙ live-length σ count ls ∙ ap (min count) long
+
 module _ {A B : Type 0} (σ : Shape A B) (count n : ℕ) (ls : List A) (long : length ls ≡ σ .limit) (few : n ≡ min count (σ .limit)) where
   -- the first n lines are what the count reads
   pub lines-read : live σ n ls ≡ live σ count ls

@@ -1,2 +1,1 @@
 pub mod Stacks
-pub mod Pass

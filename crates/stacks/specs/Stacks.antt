@@ -55,10 +55,6 @@ isOther k x = not (eqb (x .start) k)
 abbrev pub isAbove : ℕ → Stack → Bool
 isAbove k x = ltb k (x .start)
 
--- the bytes that a stack takes
-abbrev pub totalOf : Stack → ℕ
-totalOf k = k .total
-
 -- a count and lines are a written list where they are that list's
 pub made : (n : ℕ) (ls : List Line) (ks : List Stack) → n ≡ length ks → ls ≡ pad stackLine ks → _≡_ {A = Stacks} (record { count = n; lines = ls }) (written ks)
 unfolding written

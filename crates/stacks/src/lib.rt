@@ -2,21 +2,16 @@
 // every value of the struct, whatever its count and lines hold.
 ghost use mathlib.Core.List.{[]};
 ghost use mathlib.Core.Path.{_≡_};
-ghost use Prim.Native.Nat.{_+_, _≤_, _<_, min};
+ghost use Prim.Native.Nat.{_≤_, _<_, min};
 ghost use lib.Dec.{ltb};
 ghost use lib.ListN.{length};
 ghost use Rattle.lists.specs.Choice.{if_then_else_};
-ghost use Rattle.lists.specs.Lists.{sum};
 ghost use Rattle.lists.specs.Keyed.{has, insert, remove};
 ghost use Rattle.lines.specs.Shape.{live, pad, blank};
 ghost use Rattle.lines.specs.Search.{place};
 ghost use Rattle.lines.specs.Opened.{opened, openedAt};
 ghost use Rattle.meaning.specs.Model.{stackName, stackOf};
-ghost use Rattle.meaning.specs.Rules.{stacksFit, runSound};
-ghost use Rattle.meaning.specs.Reading.{runOf};
-ghost use Rattle.stacks.specs.Stacks.{view, back, zeros, isZeros, stackLine, reading, written, clean, isStack, isAbove, totalOf};
-ghost use Rattle.stacks.specs.Pass.{stackEnd, fitsFrom, inOrder};
-use names::Area;
+ghost use Rattle.stacks.specs.Stacks.{view, back, zeros, isZeros, stackLine, reading, written, clean, isStack, isAbove};
 use names::Stack;
 use names::StackId;
 
@@ -124,66 +119,6 @@ fn without_line(lines: [Stack; 32], n: usize, id: StackId) -> Stacks
     }
 }
 
-// Where a stack ends.
-fn stack_end(stack: Stack) -> u64
-    ensures { λ r. ⌜ r ≡ stackEnd (view stack) ⌝ }
-{
-    let id = stack.id;
-    (id.0 as u64) + (stack.total as u64)
-}
-
-// What rule 6 asks of one stack, where the one before it ended at `last`.
-fn fits_from(stack: Stack, last: u64, area: Area, run: Area) -> bool
-    ensures { λ r. ⌜ r ≡ fitsFrom (runOf area) (runOf run) last (view stack) ⌝ }
-{
-    let id = stack.id;
-    let total = stack.total;
-    if (id.0 as u64) < last {
-        return false;
-    }
-    if total < Stack::OVERHEAD {
-        return false;
-    }
-    let taken = Area::new(id.0, total);
-    if !areas::inside(taken, area) {
-        return false;
-    }
-    areas::apart(taken, run)
-}
-
-// Each of the first n stacks fits from where the one before it ended.
-fn lines_fit(lines: [Stack; 32], n: usize, area: Area, run: Area) -> bool
-    requires { ⌜ n ≤ 32 ⌝ }
-    ensures { λ r. ⌜ r ≡ inOrder (runOf area) (runOf run) (live stackLine n lines) ⌝ }
-{
-    let mut last: u64 = 0;
-    let mut i: usize = 0;
-    while i < n {
-        let k = lines[i];
-        if !fits_from(k, last, area, run) {
-            return false;
-        }
-        last = stack_end(k);
-        i += 1;
-    }
-    true
-}
-
-// A first number and the totals of the first n stacks, as a whole number.
-fn bytes_with(lines: [Stack; 32], n: usize, first: u32) -> u64
-    requires { ⌜ n ≤ 32 ⌝ }
-    ensures { λ r. ⌜ r ≡ sum totalOf (live stackLine n lines) + first ⌝ }
-{
-    let mut bytes = first as u64;
-    let mut i: usize = 0;
-    while i < n {
-        let k = lines[i];
-        bytes += k.total as u64;
-        i += 1;
-    }
-    bytes
-}
-
 fn is_zero_line(stack: Stack) -> bool
     ensures { λ r. ⌜ r ≡ isZeros stack ⌝ }
 {
@@ -271,34 +206,6 @@ impl Stacks {
         let lines = self.lines;
         let n = used(self.count);
         without_line(lines, n, id)
-    }
-
-    // Rule 6, in one pass.
-    pub fn fit(self, area: Area, run: Area) -> bool
-        ensures { λ r. ⌜ r ≡ stacksFit (runOf area) (runOf run) (reading self) ⌝ }
-    {
-        let lines = self.lines;
-        let n = used(self.count);
-        lines_fit(lines, n, area, run)
-    }
-
-    // Rule 7.
-    pub fn run_sound(self, area: Area, run: Area) -> bool
-        ensures { λ r. ⌜ r ≡ runSound (runOf area) (runOf run) (reading self) ⌝ }
-    {
-        let lines = self.lines;
-        let n = used(self.count);
-        let left = run.length;
-        if !areas::inside(run, area) {
-            return false;
-        }
-        if bytes_with(lines, n, left) != (area.length as u64) {
-            return false;
-        }
-        if left != 0 {
-            return true;
-        }
-        (run.start as u64) == areas::end(area)
     }
 
     // Rule 8: the count is at most 32, and lines past it hold zeros.

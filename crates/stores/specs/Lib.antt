@@ -1,6 +1,2 @@
 pub mod Stores
-pub mod Starts
 pub mod Climb
-pub mod Pass
-pub mod Steps
-pub mod Broken

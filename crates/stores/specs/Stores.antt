@@ -1,17 +1,17 @@
 -- The list of stores: how its lines read, how a list is written, and when it is clean. Assumes nothing.
-use mathlib.Core.Bool.{Bool, true, not, _&&_}
-use mathlib.Core.List.{List, [], _∷_}
+use mathlib.Core.Bool.{Bool, true, false, not, _&&_}
+use mathlib.Core.List.{List}
 use mathlib.Core.Path.{_≡_, refl}
 use Prim.Native.Nat.{ℕ}
 use lib.Dec.{leb, ltb, eqb}
 use lib.ListN.{length}
 use borrow.Author.Tests.{leb-true, eqb-true}
+use Rattle.lists.specs.Choice.{if_then_else_}
 use Rattle.lists.specs.Tests.{and-iff}
 use Rattle.lines.specs.Shape.{Shape, live, pad, blank, live-pad, written-back}
-use Rattle.meaning.specs.Model.{Run, Store}
+use Rattle.meaning.specs.Model.{Store}
 use Rattle.meaning.specs.Nesting.{nested}
-use Rattle.meaning.specs.Rules.{rootSound, storesHang, storesFit}
-use Rattle.meaning.specs.Reports.{_when_, firstReport}
+use Rattle.meaning.specs.Changes.{lineWithUsed, lineWithTotal}
 use Rattle.names.specs.declared.lines.Store.{Store as Line}
 use Rattle.stores.specs.declared.Stores.{Stores}
 
@@ -70,9 +70,14 @@ isOutside ss c s = not (nested ss (s .start) c)
 abbrev pub isOtherChild : ℕ → ℕ → Store → Bool
 isOtherChild parent s c = eqb (c .parent) parent && not (eqb (c .start) s)
 
--- the lowest of rules 2, 3 and 4 that is broken, 0 where none is
-unfoldable pub brokenStores : Run → List Store → ℕ
-brokenStores area ss = firstReport (2 when not (rootSound area ss) ∷ 3 when not (storesHang ss) ∷ 4 when not (storesFit ss) ∷ [])
+-- a store with another total, or another used, where it is the store c
+abbrev pub lineWith : Bool → ℕ → ℕ → Store → Store
+lineWith total c x s = if total then lineWithTotal c x s else lineWithUsed c x s
+
+-- it leaves any other store
+pub line-other : (total : Bool) (c x : ℕ) (s : Line) → eqb (s .id .0) c ≡ false → s ≡ back (lineWith total c x (view s))
+line-other true c x s e = rw e
+line-other false c x s e = rw e
 
 -- a count and lines are a written list where they are that list's
 pub made : (n : ℕ) (ls : List Line) (ss : List Store) → n ≡ length ss → ls ≡ pad storeLine ss → _≡_ {A = Stores} (record { count = n; lines = ls }) (written ss)

@@ -1,28 +1,21 @@
 // The list of stores: at most 64 lines, by rising start. Each function's promise is an equation with a function on the list that the lines read as, on
 // every value of the struct, whatever its count and lines hold.
-ghost use mathlib.Core.Bool.{true};
-ghost use mathlib.Core.List.{[]};
+ghost use mathlib.Core.List.{[], map};
 ghost use mathlib.Core.Path.{_≡_};
 ghost use Prim.Native.Nat.{_≤_, _<_, min};
 ghost use lib.Dec.{ltb};
 ghost use lib.ListN.{length};
 ghost use Rattle.lists.specs.Choice.{if_then_else_};
-ghost use Rattle.lists.specs.Lists.{all, any, keep, rest};
-ghost use Rattle.lists.specs.Keyed.{has, insert, rising};
+ghost use Rattle.lists.specs.Lists.{any, keep, rest};
+ghost use Rattle.lists.specs.Keyed.{has, insert};
 ghost use Rattle.lines.specs.Shape.{live, pad, blank};
 ghost use Rattle.lines.specs.Search.{place};
 ghost use Rattle.lines.specs.Halves.{Halved};
-ghost use Rattle.lines.specs.Keys.{number};
 ghost use Rattle.lines.specs.Opened.{opened, openedAt};
-ghost use Rattle.meaning.specs.Model.{end, whole, storeName, storeOf, rootOf};
+ghost use Rattle.meaning.specs.Model.{storeName, storeOf, rootOf};
 ghost use Rattle.meaning.specs.Nesting.{parentIn, nested};
-ghost use Rattle.meaning.specs.Rules.{rootSound, hangs, storesHang, fits};
-ghost use Rattle.meaning.specs.Reading.{runOf};
-ghost use Rattle.meaning.specs.Changes.{lineWithUsed, withUsed, lineWithTotal, withTotal, cleared};
-ghost use Rattle.stores.specs.Stores.{view, back, zeros, isZeros, storeLine, reading, written, clean, isStore, isAbove, isOutside, isOtherChild, brokenStores};
-ghost use Rattle.stores.specs.Starts.{startsOf, firstStarts, hangsAmong};
-ghost use Rattle.stores.specs.Pass.{within, walk};
-use names::Area;
+ghost use Rattle.meaning.specs.Changes.{withUsed, withTotal, cleared};
+ghost use Rattle.stores.specs.Stores.{view, back, zeros, isZeros, storeLine, reading, written, clean, isStore, isAbove, isOutside, isOtherChild, lineWith};
 use names::Store;
 use names::StoreId;
 
@@ -70,7 +63,7 @@ fn half_place(lines: [Store; 64], n: usize, id: StoreId) -> usize
     let mut lo: usize = 0;
     let mut hi = n;
     while lo < hi {
-        let mid = lo + (hi - lo) / 2;
+        let mid = (lo + hi) / 2;
         let s = lines[mid];
         let k = s.id;
         if k.0 == id.0 {
@@ -130,88 +123,43 @@ fn with_line(lines: [Store; 64], n: usize, at: usize, x: Store) -> [Store; 64]
     out
 }
 
-// A line with another used where it is that store's.
-fn put_used(s: Store, id: StoreId, used: u32) -> Store
-    ensures { λ r. ⌜ r ≡ back (lineWithUsed (id .0) used (view s)) ⌝ }
+// A line with another total, or another used, where it is that store's.
+fn put(s: Store, id: StoreId, total: bool, x: u32) -> Store
+    ensures { λ r. ⌜ r ≡ back (lineWith total (id .0) x (view s)) ⌝ }
 {
     let k = s.id;
-    if k.0 == id.0 {
-        let parent = s.parent;
+    let parent = s.parent;
+    if k.0 != id.0 {
+        return s;
+    }
+    if total {
         return Store {
             id: k,
-            total: s.total,
-            used,
-            parent,
-        };
-    }
-    s
-}
-
-// The first n lines with another used for that store.
-fn lines_with_used(lines: [Store; 64], n: usize, id: StoreId, used: u32) -> [Store; 64]
-    requires { ⌜ n ≤ 64 ⌝ }
-    ensures { λ r. ⌜ r ≡ pad storeLine (withUsed (id .0) used (live storeLine n lines)) ⌝ }
-{
-    let mut out = no_lines();
-    let mut i: usize = 0;
-    while i < n {
-        out[i] = put_used(lines[i], id, used);
-        i += 1;
-    }
-    out
-}
-
-// A line with another total where it is that store's.
-fn put_total(s: Store, id: StoreId, total: u32) -> Store
-    ensures { λ r. ⌜ r ≡ back (lineWithTotal (id .0) total (view s)) ⌝ }
-{
-    let k = s.id;
-    if k.0 == id.0 {
-        let parent = s.parent;
-        return Store {
-            id: k,
-            total,
+            total: x,
             used: s.used,
             parent,
         };
     }
-    s
+    Store {
+        id: k,
+        total: s.total,
+        used: x,
+        parent,
+    }
 }
 
-// The first n lines with another total for that store.
-fn lines_with_total(lines: [Store; 64], n: usize, id: StoreId, total: u32) -> [Store; 64]
+// The first n lines with another total, or another used, for that store.
+fn lines_with(lines: [Store; 64], n: usize, id: StoreId, total: bool, x: u32) -> [Store; 64]
     requires { ⌜ n ≤ 64 ⌝ }
-    ensures { λ r. ⌜ r ≡ pad storeLine (withTotal (id .0) total (live storeLine n lines)) ⌝ }
+    ensures { λ r. ⌜ r ≡ pad storeLine (map (lineWith total (id .0) x) (live storeLine n lines)) ⌝ }
 {
     let mut out = no_lines();
     let mut i: usize = 0;
     while i < n {
-        out[i] = put_total(lines[i], id, total);
+        out[i] = put(lines[i], id, total, x);
         i += 1;
     }
     out
-}
-
-// The starts of the first n lines rise strictly.
-fn lines_rise(lines: [Store; 64], n: usize) -> bool
-    requires { ⌜ n ≤ 64 ⌝ }
-    ensures { λ r. ⌜ r ≡ rising storeName (live storeLine n lines) ⌝ }
-{
-    if n == 0 {
-        return true;
-    }
-    let mut i: usize = 1;
-    while i < n {
-        let a = lines[i - 1];
-        let b = lines[i];
-        let j = a.id;
-        let k = b.id;
-        if k.0 <= j.0 {
-            return false;
-        }
-        i += 1;
-    }
-    true
 }
 
 fn is_zero_line(s: Store) -> bool
@@ -271,162 +219,6 @@ fn other_child(lines: [Store; 64], n: usize, parent: StoreId, store: StoreId) ->
         i += 1;
     }
     false
-}
-
-// Rule 2: the first of n lines is the root.
-fn root_sound(lines: [Store; 64], n: usize, area: Area) -> bool
-    requires { ⌜ n ≤ 64 ⌝ }
-    ensures { λ r. ⌜ r ≡ rootSound (runOf area) (live storeLine n lines) ⌝ }
-{
-    if n == 0 {
-        return false;
-    }
-    let s = lines[0];
-    let k = s.id;
-    let p = s.parent;
-    if k.0 != area.start {
-        return false;
-    }
-    if s.total != area.length {
-        return false;
-    }
-    p.0 == k.0
-}
-
-// The starts of the first n lines, to be searched.
-fn starts_of(lines: [Store; 64], n: usize) -> [u32; 64]
-    requires { ⌜ n ≤ 64 ⌝ }
-    ensures { λ r. ⌜ r ≡ startsOf (live storeLine n lines) ⌝ }
-{
-    let mut out: [u32; 64] = [0; 64];
-    let mut i: usize = 0;
-    while i < n {
-        let s = lines[i];
-        let k = s.id;
-        out[i] = k.0;
-        i += 1;
-    }
-    out
-}
-
-// A place of that number among the first n, found by halves; n where that finds none. On rising numbers it is the place of the first.
-fn half_start(starts: &[u32; 64], n: usize, id: StoreId) -> usize
-    requires { ⌜ (n ≤ 64) × (length (now starts) ≡ 64) ⌝ }
-    ensures { λ r. ⌜ Halved number (firstStarts n (now (starts .entry))) (id .0) r ⌝ }
-{
-    let mut lo: usize = 0;
-    let mut hi = n;
-    while lo < hi {
-        let mid = lo + (hi - lo) / 2;
-        let k = starts[mid];
-        if k == id.0 {
-            return mid;
-        }
-        if k < id.0 {
-            lo = mid + 1;
-        } else {
-            hi = mid;
-        }
-    }
-    n
-}
-
-// The line's parent is among the first n starts, which rise, and has a lower start; its total is at least 16.
-fn line_hangs(starts: &[u32; 64], n: usize, s: Store) -> bool
-    requires { ⌜ (n ≤ 64) × (length (now starts) ≡ 64) × (rising number (firstStarts n (now starts)) ≡ true) ⌝ }
-    ensures { λ r. ⌜ r ≡ hangsAmong (firstStarts n (now (starts .entry))) (view s) ⌝ }
-{
-    let k = s.id;
-    let p = s.parent;
-    if n <= half_start(starts, n, p) {
-        return false;
-    }
-    if k.0 <= p.0 {
-        return false;
-    }
-    Store::OVERHEAD <= s.total
-}
-
-// Rule 3 of the first n lines, which rise, with their starts: each but the first hangs.
-fn lines_hang(lines: [Store; 64], starts: &[u32; 64], n: usize) -> bool
-    requires { ⌜ (n ≤ 64) × (now starts ≡ startsOf (live storeLine n lines)) × (rising storeName (live storeLine n lines) ≡ true) ⌝ }
-    ensures { λ r. ⌜ r ≡ all (hangs (live storeLine n lines)) (rest (live storeLine n lines)) ⌝ }
-{
-    let mut i: usize = 1;
-    while i < n {
-        if !line_hangs(starts, n, lines[i]) {
-            return false;
-        }
-        i += 1;
-    }
-    true
-}
-
-// The line's used is at most its total less 16.
-fn line_fits(s: Store) -> bool
-    ensures { λ r. ⌜ r ≡ fits (view s) ⌝ }
-{
-    (s.used as u64) + (Store::OVERHEAD as u64) <= (s.total as u64)
-}
-
-fn lines_fit(lines: [Store; 64], n: usize) -> bool
-    requires { ⌜ n ≤ 64 ⌝ }
-    ensures { λ r. ⌜ r ≡ all fits (live storeLine n lines) ⌝ }
-{
-    let mut i: usize = 0;
-    while i < n {
-        if !line_fits(lines[i]) {
-            return false;
-        }
-        i += 1;
-    }
-    true
-}
-
-// The address after the line's last.
-fn end_of(s: Store) -> u64
-    ensures { λ r. ⌜ r ≡ end (whole (view s)) ⌝ }
-{
-    let k = s.id;
-    (k.0 as u64) + (s.total as u64)
-}
-
-// The total of c lies in the used part of p.
-fn lies_in(c: Store, p: Store) -> bool
-    ensures { λ r. ⌜ r ≡ within (view c) (view p) ⌝ }
-{
-    let k = c.id;
-    let q = p.id;
-    let from = (q.0 as u64) + (Store::OVERHEAD as u64);
-    if (k.0 as u64) < from {
-        return false;
-    }
-    end_of(c) <= from + (p.used as u64)
-}
-
-// Each of the first n lines but the first, which all hang, lies in its parent, behind the parent's last child before it: where that ended is remembered
-// at the parent's place.
-fn lines_nest(lines: [Store; 64], starts: &[u32; 64], n: usize) -> bool
-    requires { ⌜ (n ≤ 64) × (now starts ≡ startsOf (live storeLine n lines)) × (storesHang (live storeLine n lines) ≡ true) ⌝ }
-    ensures { λ r. ⌜ r ≡ walk (live storeLine n lines) [] (rest (live storeLine n lines)) ⌝ }
-{
-    let mut ends: [u64; 64] = [0; 64];
-    let mut i: usize = 1;
-    while i < n {
-        let c = lines[i];
-        let k = c.id;
-        let j = half_start(starts, n, c.parent);
-        let p = lines[j];
-        if !lies_in(c, p) {
-            return false;
-        }
-        if (k.0 as u64) < ends[j] {
-            return false;
-        }
-        ends[j] = end_of(c);
-        i += 1;
-    }
-    true
 }
 
 impl Stores {
@@ -492,28 +284,30 @@ impl Stores {
         s.id
     }
 
-    // Another used for that store.
-    pub fn with_used(self, id: StoreId, used: u32) -> Stores
-        ensures { λ r. ⌜ r ≡ written (withUsed (id .0) used (reading self)) ⌝ }
+    // Another total, or another used, for that store.
+    fn changed(self, id: StoreId, total: bool, x: u32) -> Stores
+        ensures { λ r. ⌜ r ≡ written (map (lineWith total (id .0) x) (reading self)) ⌝ }
     {
         let lines = self.lines;
         let n = in_use(self.count);
         Stores {
             count: n as u32,
-            lines: lines_with_used(lines, n, id, used),
+            lines: lines_with(lines, n, id, total, x),
         }
+    }
+
+    // Another used for that store.
+    pub fn with_used(self, id: StoreId, used: u32) -> Stores
+        ensures { λ r. ⌜ r ≡ written (withUsed (id .0) used (reading self)) ⌝ }
+    {
+        self.changed(id, false, used)
     }
 
     // Another total for that store.
     pub fn with_total(self, id: StoreId, total: u32) -> Stores
         ensures { λ r. ⌜ r ≡ written (withTotal (id .0) total (reading self)) ⌝ }
     {
-        let lines = self.lines;
-        let n = in_use(self.count);
-        Stores {
-            count: n as u32,
-            lines: lines_with_total(lines, n, id, total),
-        }
+        self.changed(id, true, total)
     }
 
     // One store more, at its rising place; the same list where it is full.
@@ -591,31 +385,6 @@ impl Stores {
         let lines = self.lines;
         let n = in_use(self.count);
         other_child(lines, n, parent, store)
-    }
-
-    // The lowest of rules 2, 3 and 4 that is broken, 0 where none is.
-    pub fn broken_rule(self, area: Area) -> u32
-        ensures { λ r. ⌜ r ≡ brokenStores (runOf area) (reading self) ⌝ }
-    {
-        let lines = self.lines;
-        let n = in_use(self.count);
-        if !root_sound(lines, n, area) {
-            return 2;
-        }
-        if !lines_rise(lines, n) {
-            return 3;
-        }
-        let starts = starts_of(lines, n);
-        if !lines_hang(lines, &starts, n) {
-            return 3;
-        }
-        if !lines_fit(lines, n) {
-            return 4;
-        }
-        if !lines_nest(lines, &starts, n) {
-            return 4;
-        }
-        0
     }
 
     // Rule 8: the count is at most 64, and lines past it hold zeros.

@@ -15,7 +15,8 @@ use Rattle.meaning.specs.Rules.{rule1, rule2, rule3, rule4, rule5, rule6, rule7
 use Rattle.meaning.specs.Reading.{runOf}
 use Rattle.meaning.specs.Reports.{Check, _when_, firstReport}
 use Rattle.stores.specs.Stores
-use Rattle.stores.specs.Stores.{reading as storesOf, brokenStores}
+use Rattle.stores.specs.Stores.{reading as storesOf}
+use Rattle.store_rules.specs.Broken.{brokenStores}
 use Rattle.threads.specs.Threads
 use Rattle.stacks.specs.Stacks
 use Rattle.table.specs.declared.Table.{Table}

@@ -52,17 +52,17 @@ impl Table {
         if !areas::sound(store_area, stack_area) {
             return 1;
         }
-        let k = stores.broken_rule(store_area);
+        let k = store_rules::broken_rule(stores, store_area);
         if k != 0 {
             return k;
         }
         if !contexts::placed(threads, stores) {
             return 5;
         }
-        if !stacks.fit(stack_area, free) {
+        if !stack_rules::fit(stacks, stack_area, free) {
             return 6;
         }
-        if !stacks.run_sound(stack_area, free) {
+        if !stack_rules::run_sound(stacks, stack_area, free) {
             return 7;
         }
         if !all_clean(stores, threads, stacks) {

@@ -19,9 +19,6 @@ abbrev μ-loop : tie.MeasureT-loop
 loop-holds : tie.Need-loop-holds Inv-loop μ-loop
 loop-holds c = (search needs, search needs, search needs, halves-start storeLine storeName _ _ (search needs) _)
 
-sub-mid : tie.Need-sub-mid Inv-loop μ-loop
-sub-mid c = search needs
-
 add-mid : tie.Need-add-mid Inv-loop μ-loop
 add-mid c = search needs
 
@@ -34,7 +31,7 @@ array-copy-out-s c = search needs
 returns : tie.Need-returns Inv-loop μ-loop
 returns c =
     let l = c .before .before .before .before .before .before .loop in
-    halves-hit storeLine storeName _ _ (search needs) _ (l .lo + (l .hi - l .lo) / 2) (search needs) (c .if1 .taken)
+    halves-hit storeLine storeName _ _ (search needs) _ ((l .lo + l .hi) / 2) (search needs) (c .if1 .taken)
 
 add-lo : tie.Need-add-lo Inv-loop μ-loop
 add-lo c = search needs
@@ -45,7 +42,7 @@ loop-less c = search needs
 loop-again : tie.Need-loop-again Inv-loop μ-loop
 loop-again c =
     let l = c .before .before .before .before .before .before .before .before .before .loop in
-    (search needs, search needs, search needs, halves-low storeLine storeName _ _ (search needs) _ (l .lo) (l .hi) (l .lo + (l .hi - l .lo) / 2) (search needs) (c .if2 .taken) (l .inv .3))
+    (search needs, search needs, search needs, halves-low storeLine storeName _ _ (search needs) _ (l .lo) (l .hi) ((l .lo + l .hi) / 2) (search needs) (c .if2 .taken) (l .inv .3))
 
 loop-less-2 : tie.Need-loop-less-2 Inv-loop μ-loop
 loop-less-2 c = search needs
@@ -53,7 +50,7 @@ loop-less-2 c = search needs
 loop-again-2 : tie.Need-loop-again-2 Inv-loop μ-loop
 loop-again-2 c =
     let l = c .before .before .before .before .before .before .before .before .before .loop in
-    (search needs, search needs, search needs, halves-high storeLine storeName _ _ (search needs) _ (l .lo) (l .hi) (l .lo + (l .hi - l .lo) / 2) (search needs) (search needs) (l .inv .3))
+    (search needs, search needs, search needs, halves-high storeLine storeName _ _ (search needs) _ (l .lo) (l .hi) ((l .lo + l .hi) / 2) (search needs) (search needs) (l .inv .3))
 
 returns-2 : tie.Need-returns-2 Inv-loop μ-loop
 returns-2 c = let l = c .before .loop in halves-end storeLine storeName _ _ (search needs) _ (l .lo) (l .hi) (search needs) (l .inv .3)
@@ -65,7 +62,6 @@ half-place-spec =
     Inv-loop
     μ-loop
     loop-holds
-    sub-mid
     add-mid
     mul-s
     array-copy-out-s

@@ -13,9 +13,9 @@ use Rattle.table.proofs.Table.broken_rule.Statement.{statement}
 use Rattle.table.proofs.Table.broken_rule.Tie as tie
 use Rattle.areas.proofs.sound.Reads as sound-reads
 use Rattle.contexts.proofs.placed.Reads as placed-reads
-use Rattle.stacks.proofs.Stacks.fit.Reads as fit-reads
-use Rattle.stacks.proofs.Stacks.run_sound.Reads as run-sound-reads
-use Rattle.stores.proofs.Stores.broken_rule.Reads as broken-rule-reads
+use Rattle.stack_rules.proofs.fit.Reads as fit-reads
+use Rattle.stack_rules.proofs.run_sound.Reads as run-sound-reads
+use Rattle.store_rules.proofs.broken_rule.Reads as broken-rule-reads
 use Rattle.table.proofs.all_clean.Reads as all-clean-reads
 
 -- rule 1 holds

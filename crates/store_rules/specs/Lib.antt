@@ -1,0 +1,4 @@
+pub mod Starts
+pub mod Pass
+pub mod Steps
+pub mod Broken
