@@ -27,7 +27,8 @@ pub enum Record {
     Stop,
 }
 
-const LENGTH: usize = 19;
+// How many bytes a record has.
+pub const LENGTH: usize = 19;
 
 // The mark of a record.
 const FIRST: u8 = 0x4D;
