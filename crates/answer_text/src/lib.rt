@@ -3,8 +3,9 @@ ghost use mathlib.Core.Path.{_≡_};
 ghost use Prim.Native.Nat.{_+_, _≤_, _<_};
 ghost use lib.Dec.{leb};
 ghost use lib.ListN.{length};
-ghost use Rattle.answer_text.specs.Decimal.{decimal};
-ghost use Rattle.answer_text.specs.Text.{word, answerText, stopText, overwritten, written, placeAfter, Put};
+ghost use Rattle.texts.specs.Decimal.{decimal};
+ghost use Rattle.texts.specs.Buffer.{overwritten, placed as written, placeAfter, Put};
+ghost use Rattle.answer_text.specs.Text.{word, answerText, stopText};
 
 // Three decimals with one space between and a line end. The answer is the place after the text, or `at` where it does not fit.
 pub fn write_answer(buffer: &mut [u8], at: usize, code: u32, report: u32, value: u32) -> usize

@@ -8,6 +8,7 @@ use Rattle.lists.specs.Choice.{if_then_else_}
 use Rattle.lists.specs.Lists.{all}
 use Rattle.meaning.specs.Calls.{Call, root, contextOf, setContext, totalOf, usedOf, freeOf, find, allocate, makeStore, clear, resize, makeStack, destroyStack, addThread, removeThread}
 use Rattle.meaning.specs.Cases.{startAt}
+use Rattle.texts.specs.Counts.{counts}
 
 -- what stands at a place: a call, or what the program stops at
 pub data Entry : Type 0 where
@@ -15,10 +16,6 @@ pub data Entry : Type 0 where
   stop : Entry
 
 -- ---- the call of a code and four numbers
-
--- how many numbers each call takes, by its code
-abbrev pub counts : List ℕ
-counts = 4 ∷ 0 ∷ 1 ∷ 2 ∷ 1 ∷ 1 ∷ 1 ∷ 1 ∷ 2 ∷ 2 ∷ 1 ∷ 2 ∷ 1 ∷ 1 ∷ 2 ∷ 1 ∷ []
 
 -- the calls of the numbers a b c d, by their codes: "the arguments in the order above"
 abbrev pub calls : ℕ → ℕ → ℕ → ℕ → List Call

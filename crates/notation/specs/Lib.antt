@@ -1,7 +1,6 @@
 pub mod Numbers
 pub mod Notation
 pub mod Runs
-pub mod Decimals
 pub mod Spelled
 pub mod ReadBack
 pub mod Examples

@@ -1,11 +1,12 @@
 -- A call list as people write it: document 01's own notation, as `0(4096,256,8192,64) 14(1,4096) 8(1,20)`. What stands at a place of such a text is a call,
 -- nothing more, or what is no call, with the place where it goes wrong. Assumes nothing.
 use mathlib.Core.Bool.{Bool, _&&_, _||_}
-use mathlib.Core.List.{List, [], _∷_}
+use mathlib.Core.List.{List}
 use Prim.Native.Nat.{ℕ, _+_}
 use lib.Dec.{ltb, leb, eqb}
 use lib.ListN.{length, drop, getD}
 use Rattle.lists.specs.Choice.{if_then_else_}
+use Rattle.texts.specs.Counts.{counts}
 use Rattle.notation.specs.Numbers.{front, numberAt}
 use Rattle.notation.specs.declared.Call.{Call}
 use Rattle.notation.specs.declared.Number.{Number}
@@ -42,10 +43,6 @@ unfoldable pub ends : List ℕ → ℕ → Bool
 ends text at = leb (length text) at || isBlank (getD text at 0)
 
 -- ---- a call
-
--- how many numbers each call takes, by its code
-abbrev pub counts : List ℕ
-counts = 4 ∷ 0 ∷ 1 ∷ 2 ∷ 1 ∷ 1 ∷ 1 ∷ 1 ∷ 2 ∷ 2 ∷ 1 ∷ 2 ∷ 1 ∷ 1 ∷ 2 ∷ 1 ∷ []
 
 -- the argument with k others in front of it, of n in all, at a place: a number, with a comma before all but the first. One that the call lacks is 0 and no text
 unfoldable pub argument : List ℕ → ℕ → ℕ → ℕ → Number

@@ -11,10 +11,12 @@ use lib.Seq.{drop-drop, drop-append-seam, getD-drop, take-all}
 use borrow.Author.Tests.{leb-true, lt-ltb, le-leb, lt-leb, eq-eqb, ne-eqb}
 use Rattle.lists.specs.Lists.{all}
 use Rattle.lists.specs.Tests.{and-iff}
-use Rattle.notation.specs.Numbers.{isDigit, front, numberAt}
-use Rattle.notation.specs.Notation.{isBlank, pastBlanks, stands, ends, counts, argument, closed, arguments, opened, callAt, written}
+use Rattle.texts.specs.Counts.{counts}
+use Rattle.texts.specs.Decimal.{decimal, isDigit}
+use Rattle.texts.specs.DecimalLaws.{value-decimal, decimal-digits, decimal-some}
+use Rattle.notation.specs.Numbers.{front, numberAt}
+use Rattle.notation.specs.Notation.{isBlank, pastBlanks, stands, ends, argument, closed, arguments, opened, callAt, written}
 use Rattle.notation.specs.Runs.{digit-low}
-use Rattle.notation.specs.Decimals.{decimal, value-decimal, decimal-digits, decimal-some}
 use Rattle.notation.specs.Spelled.{behind, joined, spelled}
 use Rattle.notation.specs.declared.Number.the-variants.{Is}
 use Rattle.notation.specs.declared.Written.{Written}
@@ -47,7 +49,7 @@ abbrev pub blankFirst : List ℕ → Bool
 blankFirst [] = true
 blankFirst (b ∷ l) = isBlank b
 
-all-at : (p : ℕ → Bool) (l : List ℕ) (i d : ℕ) → all p l ≡ true → p d ≡ true → p (getD l i d) ≡ true
+pub all-at : (p : ℕ → Bool) (l : List ℕ) (i d : ℕ) → all p l ≡ true → p d ≡ true → p (getD l i d) ≡ true
 all-at p [] i d h e = e
 all-at p (x ∷ l) zero d h e = and-iff (p x) (all p l) .0 h .0
 all-at p (x ∷ l) (suc i) d h e = all-at p l i d (and-iff (p x) (all p l) .0 h .1) e

@@ -10,7 +10,8 @@ use lib.ListN.{length, drop, getD, drop-of-length-le}
 use lib.Seq.{drop-cons}
 use borrow.Author.Tests.{ltb-true, leb-true, lt-ltb, le-ltb, le-leb, lt-leb}
 use Rattle.lists.specs.Tests.{and-iff}
-use Rattle.notation.specs.Numbers.{isDigit, front, valueAfter, value, numberAt, digitsFrom}
+use Rattle.texts.specs.Decimal.{isDigit, valueAfter, value}
+use Rattle.notation.specs.Numbers.{front, numberAt, digitsFrom}
 use Rattle.notation.specs.Notation.{isBlank, pastBlanks, stands, andThen, refused}
 use Rattle.notation.specs.declared.Digits.{Digits}
 use Rattle.notation.specs.declared.Number.{Number}

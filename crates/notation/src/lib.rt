@@ -1,7 +1,8 @@
 // Reads a call list in document 01's own notation, as `0(4096,256,8192,64) 14(1,4096) 8(1,20)`, one call after the other.
 ghost use mathlib.Core.Path.{_≡_};
 ghost use Prim.Native.Nat.{_+_, _-_, _*_, _≤_, min};
-ghost use Rattle.notation.specs.Numbers.{isDigit, numberAt, digitsFrom};
+ghost use Rattle.texts.specs.Decimal.{isDigit};
+ghost use Rattle.notation.specs.Numbers.{numberAt, digitsFrom};
 ghost use Rattle.notation.specs.Notation.{isBlank, pastBlanks, stands, ends, argument, refused, closed, arguments, opened, callAt, written};
 
 // What stands at a place of the text: a call, nothing more, or what is no call, with the place where it goes wrong.

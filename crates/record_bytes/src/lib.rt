@@ -1,6 +1,7 @@
 // Writes a record of the bench's call list into a lent buffer. A record is 19 bytes: the mark, the code of a call, and four numbers, low byte first.
 ghost use mathlib.Core.Path.{_≡_};
-ghost use Rattle.record_bytes.specs.Records.{lowFirst, recordBytes, placed, placeAfter};
+ghost use Rattle.texts.specs.Buffer.{placed, placeAfter};
+ghost use Rattle.record_bytes.specs.Records.{lowFirst, recordBytes};
 
 const LENGTH: usize = 19;
 

@@ -1,20 +1,21 @@
 -- A list of calls spelled one to a line comes to the records of those calls, one after the other. Assumes nothing.
 use mathlib.Core.Bool.{true}
 use mathlib.Core.List.{List, [], _∷_, _++_, append-nil, append-assoc}
-use mathlib.Core.Path.{_≡_, refl, sym, _∙_, ap, ap₂}
+use mathlib.Core.Path.{_≡_, refl, _∙_, ap₂}
 use Prim.Native.Nat.{ℕ, zero, suc, _+_, _*_, _≤_, _<_}
 use native.Mathlib.Omega.{arith}
-use lib.ListN.{length, take, drop, getD, length-append, length-take, take-append-drop}
-use lib.Seq.{drop-drop, take-at, drop-at}
+use lib.ListN.{length, take, drop, getD, length-append, take-append-drop}
 use borrow.Author.Tests.{le-leb}
 use Rattle.lists.specs.Lists.{all}
-use Rattle.notation.specs.Notation.{isBlank, counts, written}
+use Rattle.texts.specs.Counts.{counts}
+use Rattle.texts.specs.Buffer.{overwritten}
+use Rattle.texts.specs.BufferLaws.{overwritten-length, overwritten-more}
+use Rattle.notation.specs.Notation.{isBlank}
 use Rattle.notation.specs.Spelled.{spelled}
 use Rattle.notation.specs.ReadBack.{isWord, read-back, read-end}
-use Rattle.record_bytes.specs.Records.{recordBytes, overwritten}
+use Rattle.record_bytes.specs.Records.{recordBytes}
 use Rattle.record_bytes.specs.Laws.{record-length}
 use Rattle.translation.specs.Translation.{walk, translated}
-use Rattle.translation.specs.Walks.{overwritten-length}
 use Rattle.translation.specs.declared.Outcome.the-variants.{Records}
 
 -- a call by its code and its arguments
@@ -43,23 +44,6 @@ abbrev pub records : List Spelling → List ℕ
 records [] = []
 records (s ∷ ss) = recordFor s ++ records ss
 
--- ---- bytes written one after the other
-
-module _ (at : ℕ) (s t buffer : List ℕ) where
-  abbrev end : ℕ
-  end = at + length s
-
-  overwritten-more : end + length t ≤ length buffer → overwritten end t (overwritten at s buffer) ≡ overwritten at (s ++ t) buffer
-  unfolding overwritten
-  overwritten-more h =
-      let p = take at buffer ++ s in
-      let f : length p ≡ end = simp (length-append, length-take) (omega arith) in
-      let g : take at buffer ++ (s ++ drop end buffer) ≡ p ++ drop end buffer = sym (append-assoc (take at buffer) s (drop end buffer)) in
-      let d : drop (end + length t) (p ++ drop end buffer) ≡ drop (end + length t) buffer =
-      sym (drop-drop (length t) end (p ++ drop end buffer)) ∙ ap (drop (length t)) (drop-at p (drop end buffer) end f) ∙ drop-drop (length t) end buffer in
-      let n : at + length (s ++ t) ≡ end + length t = simp length-append (omega arith) in
-      rw (g, take-at p (drop end buffer) end f, d, n) (simp append-assoc)
-
 -- ---- line by line
 
 walk-lines
@@ -73,7 +57,7 @@ unfolding walk overwritten
 walk-lines ss before blanks zero end buffer k b t r = absurd (omega arith)
 walk-lines [] before blanks (suc turns) end buffer k b t r =
     let z : end + 0 ≡ end = omega arith in
-    rw (append-nil blanks, read-end before blanks b, z, take-append-drop end buffer)
+    rw (append-nil blanks, read-end before blanks b, z, append-nil (take end buffer), take-append-drop end buffer)
 walk-lines (s ∷ ss) before blanks (suc turns) end buffer k b t r =
     let sp = spelled (s .code) (s .args) in
     let m = length (recordFor s) in
@@ -86,7 +70,7 @@ walk-lines (s ∷ ss) before blanks (suc turns) end buffer k b t r =
     let place : length before + length blanks + length sp ≡ length (before ++ (blanks ++ sp)) = simp length-append (omega arith) in
     let last : end + m + length (records ss) ≡ end + length (recordFor s ++ records ss) = simp length-append (omega arith) in
     rw (e, le-leb (end + m) (length buffer) (omega arith))
-    (ap₂ (λ l n. walk turns l n (end + m) now) text place ∙ i ∙ ap₂ (λ n l. record { outcome = Records n; records = l }) last (overwritten-more end (recordFor s) (records ss) buffer room))
+    (ap₂ (λ l n. walk turns l n (end + m) now) text place ∙ i ∙ ap₂ (λ n l. record { outcome = Records n; records = l }) last (overwritten-more end (recordFor s) buffer (records ss) room))
 
 records-length : (ss : List Spelling) → length (records ss) ≡ 19 * length ss
 records-length [] = refl

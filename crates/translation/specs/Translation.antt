@@ -3,11 +3,12 @@ use mathlib.Core.List.{List}
 use Prim.Native.Nat.{ℕ, zero, suc, _+_}
 use lib.ListN.{length}
 use Rattle.lists.specs.Choice.{if_then_else_}
+use Rattle.texts.specs.Buffer.{fits, overwritten}
 use Rattle.notation.specs.Notation.{written}
 use Rattle.notation.specs.declared.Call.{Call}
 use Rattle.notation.specs.declared.Written.{Written}
 use Rattle.notation.specs.declared.Written.the-variants.{Call as call, End, Bad}
-use Rattle.record_bytes.specs.Records.{recordBytes, fits, overwritten}
+use Rattle.record_bytes.specs.Records.{recordBytes}
 use Rattle.translation.specs.declared.Outcome.{Outcome}
 use Rattle.translation.specs.declared.Outcome.the-variants.{Records, TooMany, Wrong}
 

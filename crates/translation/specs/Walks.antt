@@ -4,13 +4,14 @@ use mathlib.Core.Logic.{inl, inr}
 use mathlib.Core.Path.{_≡_, refl, sym, _∙_, ap}
 use Prim.Native.Nat.{ℕ, zero, suc, _+_, _≤_, _<_}
 use native.Mathlib.Omega.{arith}
-use lib.ListN.{length, length-append, length-take, length-drop}
+use lib.ListN.{length}
 use borrow.Author.Tests.{leb-true}
 use Rattle.lists.specs.Tests.{tested}
+use Rattle.texts.specs.Buffer.{fits, overwritten, placed, placeAfter}
+use Rattle.texts.specs.BufferLaws.{overwritten-length}
 use Rattle.notation.specs.Notation.{written}
 use Rattle.notation.specs.declared.Call.{Call}
 use Rattle.notation.specs.declared.Written.the-variants.{Call as call, End, Bad}
-use Rattle.record_bytes.specs.Records.{fits, overwritten, placed, placeAfter}
 use Rattle.record_bytes.specs.Laws.{record-length}
 use Rattle.translation.specs.Translation.{recordOf, walk, translated}
 use Rattle.translation.specs.declared.Outcome.the-variants.{Records, TooMany, Wrong}
@@ -23,10 +24,6 @@ Here text records₀ records place end =
 pub here-first : (text records : List ℕ) → Here text records records 0 0
 unfolding translated
 here-first text records = (suc (length records), omega arith, omega arith, refl, refl)
-
-pub overwritten-length : (at : ℕ) (bytes buffer : List ℕ) → at + length bytes ≤ length buffer → length (overwritten at bytes buffer) ≡ length buffer
-unfolding overwritten
-overwritten-length at bytes buffer h = simp (length-append, length-take, length-drop) (omega arith)
 
 module _ (text records₀ records : List ℕ) (place end : ℕ) where
   pub here-end : Here text records₀ records place end → written text place ≡ End → record { outcome = Records end; records = records } ≡ translated text records₀

@@ -1,6 +1,9 @@
 -- `answer_text::paste` meets its contract. Assumes nothing.
 use Prim.Native.Nat.{_-_}
-use Rattle.answer_text.specs.TextLaws.{pasted}
+use native.Mathlib.Omega.{arith}
+use lib.ListN.{length}
+use denote.Ref.{now}
+use Rattle.texts.specs.BufferLaws.{copied}
 use borrow.Author.Needs.{needs}
 use Rattle.answer_text.proofs.paste.Statement.{statement}
 use Rattle.answer_text.proofs.paste.Tie as tie
@@ -22,7 +25,9 @@ same-length : tie.Need-same-length
 same-length c = search needs
 
 returns : tie.Need-returns
-returns c = pasted _ _ _ _ (c .before .before .before .before .before .before .pre) (c .before .before .copy .ensures .1)
+returns c =
+    let s = c .before .before .before .before .before .before in
+    copied _ _ _ (length (now (s .args .buffer)) - s .args .at) _ (s .pre) (omega (arith, s .pre)) (c .before .before .copy .ensures .1)
 
 pub paste-spec : {M : Type 1} → statement M
 paste-spec =

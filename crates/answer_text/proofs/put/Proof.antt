@@ -4,9 +4,9 @@ use Prim.Native.Nat.{_+_, _^_, _<_}
 use mathlib.Core.Path.{_≡_, _∙_, ap}
 use lib.ListN.{length, take}
 use denote.Ref.{now}
-use Rattle.answer_text.specs.Decimal.{decimal}
-use Rattle.answer_text.specs.DecimalLaws.{decimal-told}
-use Rattle.answer_text.specs.Text.{overwritten}
+use Rattle.texts.specs.Decimal.{decimal}
+use Rattle.texts.specs.Buffer.{overwritten}
+use Rattle.answer_text.specs.LibraryDigits.{decimal-told}
 use Rattle.answer_text.specs.TextLaws.{put-word}
 use borrow.Author.Needs.{needs}
 use Rattle.answer_text.proofs.put.Statement.{statement}

@@ -1,7 +1,7 @@
 -- `answer_text::width` meets its contract. Assumes nothing.
-use Prim.Native.Nat.{_-_}
-use Rattle.answer_text.specs.Decimal.{decimal}
-use Rattle.answer_text.specs.DecimalLaws.{decimal-told, ten-digits}
+use Rattle.texts.specs.Decimal.{decimal}
+use Rattle.texts.specs.DecimalLaws.{ten-digits}
+use Rattle.answer_text.specs.LibraryDigits.{decimal-told}
 use borrow.Author.Needs.{needs}
 use Rattle.answer_text.proofs.width.Statement.{statement}
 use Rattle.answer_text.proofs.width.Tie as tie

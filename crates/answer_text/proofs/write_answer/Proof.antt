@@ -1,16 +1,18 @@
 -- `answer_text::write_answer` meets its contract. Assumes nothing.
 use borrow.Author.Tests.{leb-true, leb-false, not-true, not-false}
 use native.Mathlib.Omega.{arith}
-use Prim.Native.Nat.{ℕ, _+_, _-_, _≤_}
+use Prim.Native.Nat.{ℕ, _+_, _≤_}
 use mathlib.Core.Path.{_≡_, sym, _∙_, ap}
 use mathlib.Core.Bool.{Bool}
 use mathlib.Core.List.{List}
 use lib.Dec.{leb}
 use lib.ListN.{length}
 use denote.Ref.{now}
-use Rattle.answer_text.specs.Decimal.{decimal}
-use Rattle.answer_text.specs.Text.{answerText, fits}
-use Rattle.answer_text.specs.TextLaws.{after-word, answer-length, put-whole, put-nothing, put-answer}
+use Rattle.texts.specs.Decimal.{decimal}
+use Rattle.texts.specs.Buffer.{fits}
+use Rattle.texts.specs.BufferLaws.{put-whole, put-nothing}
+use Rattle.answer_text.specs.Text.{answerText}
+use Rattle.answer_text.specs.TextLaws.{after-word, answer-length, put-answer}
 use borrow.Author.Needs.{needs}
 use Rattle.answer_text.proofs.write_answer.Statement.{statement}
 use Rattle.answer_text.proofs.write_answer.Tie as tie

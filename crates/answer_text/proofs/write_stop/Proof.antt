@@ -1,15 +1,17 @@
 -- `answer_text::write_stop` meets its contract. Assumes nothing.
 use borrow.Author.Tests.{leb-true, leb-false, not-true, not-false}
 use native.Mathlib.Omega.{arith}
-use Prim.Native.Nat.{ℕ, _+_, _-_, _≤_}
+use Prim.Native.Nat.{ℕ, _+_, _≤_}
 use mathlib.Core.Path.{_≡_, sym, _∙_, ap}
 use mathlib.Core.Bool.{Bool}
 use mathlib.Core.List.{List}
 use lib.Dec.{leb}
 use lib.ListN.{length}
 use denote.Ref.{now}
-use Rattle.answer_text.specs.Text.{stopText, fits}
-use Rattle.answer_text.specs.TextLaws.{stop-length, put-whole, put-nothing, put-stop}
+use Rattle.texts.specs.Buffer.{fits}
+use Rattle.texts.specs.BufferLaws.{put-whole, put-nothing}
+use Rattle.answer_text.specs.Text.{stopText}
+use Rattle.answer_text.specs.TextLaws.{stop-length, put-stop}
 use borrow.Author.Needs.{needs}
 use Rattle.answer_text.proofs.write_stop.Statement.{statement}
 use Rattle.answer_text.proofs.write_stop.Tie as tie

@@ -5,7 +5,8 @@ use mathlib.Core.Path.{_≡_, refl, sym, _∙_, ap}
 use Prim.Native.Nat.{_+_, _-_, _≤_}
 use lib.ListN.{length, getD}
 use borrow.Author.Tests.{not-true, not-false}
-use Rattle.notation.specs.Numbers.{isDigit, digitsFrom}
+use Rattle.texts.specs.Decimal.{isDigit}
+use Rattle.notation.specs.Numbers.{digitsFrom}
 use borrow.Author.Needs.{needs}
 use Rattle.notation.proofs.digits_at.Statement.{statement}
 use Rattle.notation.proofs.digits_at.Tie as tie

@@ -1,24 +1,30 @@
 -- `record_bytes::write_record` meets its contract. Assumes nothing.
-use mathlib.Core.Path.{_∙_}
+use mathlib.Core.Path.{refl, _∙_}
+use Prim.Native.Nat.{_+_, _-_, _≤_}
+use lib.ListN.{length}
+use denote.Ref.{now}
 use native.Mathlib.Omega.{arith}
 use Rattle.record_bytes.specs.Records.{recordBytes}
-use Rattle.record_bytes.specs.Laws.{no-room, put-back}
+use Rattle.texts.specs.BufferLaws.{copied, put-whole, put-nothing}
 use borrow.Author.Needs.{needs}
 use Rattle.record_bytes.proofs.write_record.Statement.{statement}
 use Rattle.record_bytes.proofs.write_record.Tie as tie
 use Rattle.bytes.proofs.copy.Reads as copy-reads
 use Rattle.record_bytes.proofs.bytes_of.Reads as bytes-of-reads
 
+there-is-room : (c : tie.Else2) → c .before .before .before .args .at + 19 ≤ length (now (c .before .before .before .args .buffer))
+there-is-room c = omega (arith, c .if2 .left, c .before .if1 .left)
+
 returns : tie.Need-returns
 unfolding recordBytes
-returns c = no-room _ _ _ (omega (arith, c .if1 .taken))
+returns c = put-nothing _ _ _ (omega (arith, c .if1 .taken))
 
 sub-if2 : tie.Need-sub-if2
 sub-if2 c = search needs
 
 returns-2 : tie.Need-returns-2
 unfolding recordBytes
-returns-2 c = no-room _ _ _ (omega (arith, c .if2 .taken, c .before .if1 .left))
+returns-2 c = put-nothing _ _ _ (omega (arith, c .if2 .taken, c .before .if1 .left))
 
 add-end : tie.Need-add-end
 add-end c = search needs
@@ -46,7 +52,11 @@ same-length c = search needs
 
 returns-3 : tie.Need-returns-3
 unfolding recordBytes
-returns-3 c = put-back _ _ _ (omega (arith, c .before .before .before .before .before .before .if2 .left, c .before .before .before .before .before .before .before .if1 .left)) _ (c .before .before .copy .ensures .1 ∙ rw (c .before .before .before .before .before .bytes-of .ensures))
+returns-3 c =
+    let e = c .before .before .before .before .before in
+    let at = e .before .before .before .before .args .at in
+    let r = there-is-room (e .before) in
+    put-whole _ _ _ _ _ r (copied _ _ _ (at + 19 - at) _ r (omega arith) (c .before .before .copy .ensures .1 ∙ rw (e .bytes-of .ensures)), refl)
 
 pub write-record-spec : {M : Type 1} → statement M
 write-record-spec =

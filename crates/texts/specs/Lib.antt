@@ -1,0 +1,6 @@
+pub mod Counts
+pub mod Decimal
+pub mod DecimalLaws
+pub mod Buffer
+pub mod BufferLaws
+pub mod Examples
