@@ -1,0 +1,14 @@
+-- `bench_run::told` meets its contract. Assumes nothing.
+use borrow.Author.Needs.{needs}
+use Rattle.bench_run.proofs.steps.told.Statement.{statement}
+use Rattle.bench_run.proofs.steps.told.Tie as tie
+use Rattle.names.proofs.report.Report.number.Reads as number-reads
+
+number-requires : tie.Need-number-requires
+number-requires c κs = search needs
+
+returns : tie.Need-returns
+returns c = rw (c .number .ensures)
+
+pub told-spec : {M : Type 1} → statement M
+told-spec = tie.close (tie.spec number-requires returns)

@@ -1,0 +1,4 @@
+pub mod Bench
+pub mod Run
+pub mod Steps
+pub mod Lines
