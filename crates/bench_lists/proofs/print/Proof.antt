@@ -1,0 +1,21 @@
+-- `bench_lists::print` is safe: no more is printed than there is. Assumes nothing.
+use Rattle.bench_run.specs.Steps.{part-length}
+use borrow.Author.Needs.{needs}
+use Rattle.bench_lists.proofs.print.Statement.{statement}
+use Rattle.bench_lists.proofs.print.Tie as tie
+use Rattle.io.proofs.write_all.Reads as write-all-reads
+
+slice-aggregate-write-all : tie.Need-slice-aggregate-write-all
+slice-aggregate-write-all c = part-length _ _ (search needs)
+
+write-all-requires : tie.Need-write-all-requires
+write-all-requires c κs = search needs
+
+returns : tie.Need-returns
+returns c = search needs
+
+returns-2 : tie.Need-returns-2
+returns-2 c = search needs
+
+pub print-spec : {M : Type 1} → statement M
+print-spec = tie.close (tie.spec slice-aggregate-write-all write-all-requires returns returns-2)
