@@ -161,7 +161,7 @@ goes-on-from : (e : Entry) (place : ℕ) (t : Table) (buffer : Bytes) → lineOf
 goes-on-from (call c) place t buffer h = refl
 goes-on-from stop place t buffer h = never true refl h
 
-goes-on : (list : List ℕ) (place : ℕ) (t : Table) (buffer : Bytes) → lineAt list place t buffer .ends ≡ false
+pub goes-on : (list : List ℕ) (place : ℕ) (t : Table) (buffer : Bytes) → lineAt list place t buffer .ends ≡ false
     → (place < lastPlace) × (lineAt list place t buffer .place ≡ place + recordLength)
 unfolding lineAt
 goes-on list place t buffer h = elim (tested (usedUp list place)) [
