@@ -7,7 +7,7 @@ ghost use Rattle.texts.specs.Decimal.{decimal};
 ghost use Rattle.texts.specs.Buffer.{overwritten, placed as written, placeAfter, Put};
 ghost use Rattle.answer_text.specs.Text.{word, answerText, stopText};
 
-// Three decimals with one space between and a line end. The answer is the place after the text, or `at` where it does not fit.
+// Three decimals with one space between and a line end. Hands back the place after the text, or `at` where it does not fit.
 pub fn write_answer(buffer: &mut [u8], at: usize, code: u32, report: u32, value: u32) -> usize
     ensures { λ r. ⌜ (now (buffer .exit) ≡ written at (answerText code report value) (now (buffer .entry))) × (r ≡ placeAfter at (answerText code report value) (now (buffer .entry))) ⌝ }
 {
@@ -20,7 +20,7 @@ pub fn write_answer(buffer: &mut [u8], at: usize, code: u32, report: u32, value:
     put(buffer, third, value, b'\n')
 }
 
-// `stop N` with a line end. The answer is the place after the text, or `at` where it does not fit.
+// `stop N` with a line end. Hands back the place after the text, or `at` where it does not fit.
 pub fn write_stop(buffer: &mut [u8], at: usize, offset: u32) -> usize
     ensures { λ r. ⌜ (now (buffer .exit) ≡ written at (stopText offset) (now (buffer .entry))) × (r ≡ placeAfter at (stopText offset) (now (buffer .entry))) ⌝ }
 {
@@ -32,7 +32,7 @@ pub fn write_stop(buffer: &mut [u8], at: usize, offset: u32) -> usize
     put(buffer, at + 5, offset, b'\n')
 }
 
-// The number and the byte after it, at a place; the answer is the place after them.
+// The number and the byte after it, at a place; hands back the place after them.
 fn put(buffer: &mut [u8], at: usize, n: u32, last: u8) -> usize
     requires { ⌜ at + length (decimal n) < length (now buffer) ⌝ }
     ensures { λ r. ⌜ Put at (word n last) (now (buffer .entry)) (now (buffer .exit)) r ⌝ }

@@ -9,10 +9,12 @@ ghost use Rattle.meaning.specs.Changes.{shortened, joined};
 ghost use Rattle.meaning.specs.Reading.{runOf, areaOf, fits32};
 use names::Area;
 use names::Store;
+use names::TOO_HIGH;
 
-pub const LONGEST: u32 = 16777216;
+// Rule 1: the most bytes of an area, and the highest end.
+const LONGEST: u32 = 16777216;
 
-pub const LAST_END: u64 = 2147483648;
+const LAST_END: u64 = 2147483648;
 
 // The address after the last.
 pub fn end(a: Area) -> u64
@@ -96,13 +98,13 @@ pub fn shortened(area: Area, run: Area, n: u32) -> Area
 {
     if n == run.length {
         let at = end(area);
-        if 4294967295 < at {
+        if TOO_HIGH <= at {
             return run;
         }
         return Area::new(at as u32, 0);
     }
     let at = (run.start as u64) + (n as u64);
-    if 4294967295 < at {
+    if TOO_HIGH <= at {
         return run;
     }
     Area::new(at as u32, less(run.length, n))
@@ -113,7 +115,7 @@ pub fn joined(run: Area, stack: Area) -> Area
     ensures { λ r. ⌜ r ≡ (if fits32 (run .length + stack .length) then areaOf (joined (runOf run) (runOf stack)) else run) ⌝ }
 {
     let length = (run.length as u64) + (stack.length as u64);
-    if 4294967295 < length {
+    if TOO_HIGH <= length {
         return run;
     }
     if run.length == 0 {

@@ -5,6 +5,7 @@ ghost use Rattle.io.specs.Counts.{Counts};
 use libc::EINTR;
 use libc::STDIN_FILENO;
 use libc::STDOUT_FILENO;
+use table::Table;
 
 // Reads until the list is full or the input ends, and answers how many bytes there are. A proved loop has to end, and nothing says that
 // the input does: so the loop counts its turns down, from a number that no run uses up.
@@ -41,7 +42,7 @@ fn is_last(got: isize) -> bool {
 fn play(list: &[u8]) {
     let mut stores = bench_run::blank();
     let mut line = [0u8; 40];
-    let mut table = bench_run::nothing();
+    let mut table = Table::zeros();
     let mut place: usize = 0;
     loop {
         let next = bench_run::next(list, place, table, &mut stores, &mut line);

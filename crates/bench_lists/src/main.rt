@@ -1,6 +1,7 @@
 // The bench on many lists: every way to stop, the most records and one byte more, and a list that reaches every report that the bench can print. Lists of calls
 // are written in document 01's notation. Each list's name is printed, and behind it what the bench prints of the list.
 use libc::STDOUT_FILENO;
+use table::Table;
 use translation::Outcome;
 
 fn text(words: &[u8]) {
@@ -29,7 +30,7 @@ fn print(line: &[u8; 40], length: usize) {
 fn play(list: &[u8], long: bool) {
     let mut stores = bench_run::blank();
     let mut line = [0u8; 40];
-    let mut table = bench_run::nothing();
+    let mut table = Table::zeros();
     let mut place: usize = 0;
     loop {
         let next = bench_run::next(list, place, table, &mut stores, &mut line);
@@ -55,7 +56,7 @@ fn passed(long: bool, line: &[u8; 40], length: usize) {
 // The number of records up to a place, where they are counted.
 fn counted(long: bool, place: usize) {
     if long {
-        io::print_decimal(STDOUT_FILENO, (place / call_list::LENGTH) as u64);
+        io::print_decimal(STDOUT_FILENO, (place / texts::RECORD_LENGTH) as u64);
         text(b" lines\n");
     }
 }
@@ -171,7 +172,7 @@ fn reports() {
         b"1() 0(4096,15,8192,64) 0(4096,4097,8192,64) 0(4096,1600,8192,400) 14(1,4096) 8(2,1) 4(5) 12(1000)
         9(1,100) 11(4096,0) 9(1,10) 11(4228,5) 14(2,4112) 10(1) 15(2) 10(1)
         9(1,100) 3(1,4112) 8(1,4) 11(4112,50) 3(1,4096) 7(99) 7(4120) 13(5)
-        12(8) 12(8) 12(8) 13(8208) 13(8224) 8(1,0) 11(4112,100)
+        12(8) 12(8) 12(8) 13(8208) 13(8224) 3(1,4112) 10(1) 3(1,4096) 8(1,0) 11(4112,100)
         12(0) 12(0) 12(0) 12(0) 12(0) 12(0) 12(0) 12(0) 12(0) 12(0) 12(0) 12(0) 12(0) 12(0) 12(0)
         12(0) 12(0) 12(0) 12(0) 12(0) 12(0) 12(0) 12(0) 12(0) 12(0) 12(0) 12(0) 12(0) 12(0) 12(0) 12(0)",
         &mut list,

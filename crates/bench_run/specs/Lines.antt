@@ -7,22 +7,25 @@ use Prim.Native.Nat.{ℕ, zero, suc, _+_, _-_, _*_, _^_, _<_, _≤_}
 use native.Mathlib.Omega.{arith}
 use lib.Dec.{leb}
 use lib.ListN.{length}
-use borrow.Author.Tests.{le-leb, lt-leb, leb-false}
+use borrow.Author.Tests.{le-leb, lt-leb, leb-true, leb-false}
 use Rattle.lists.specs.Choice.{if_then_else_}
 use Rattle.lists.specs.Tests.{tested, never}
 use Rattle.meaning.specs.Model.{Bytes}
 use Rattle.meaning.specs.Calls.{code}
 use Rattle.call_list.specs.Records.{Entry, call, stop, recordAt}
+use Rattle.call_list.specs.Laws.{record-short}
+use Rattle.list_reader.specs.Read.{after}
 use Rattle.answer_text.specs.Text.{answerText, stopText}
 use Rattle.answer_text.specs.TextLaws.{answer-length, stop-length}
 use Rattle.texts.specs.Buffer.{overwritten, placed as written, placeAfter}
 use Rattle.texts.specs.DecimalLaws.{ten-digits}
+use Rattle.texts.specs.Record.{recordLength}
 use Rattle.table.specs.declared.Table.{Table}
 use Rattle.bench_run.specs.declared.Line.{Line}
-use Rattle.bench_run.specs.declared.steps.Stepped.{Stepped}
-use Rattle.bench_run.specs.Steps.{stepped, storesAfter}
-use Rattle.bench_run.specs.Bench.{benchCalled}
-use Rattle.bench_run.specs.Run.{recordLength, usedUp, printed, runFrom}
+use Rattle.bench_calls.specs.declared.Stepped.{Stepped}
+use Rattle.bench_calls.specs.Steps.{stepped, storesAfter}
+use Rattle.bench_calls.specs.Bench.{benchCalled}
+use Rattle.bench_run.specs.Run.{usedUp, printed, runFrom}
 
 -- the place behind 3,000 records
 abbrev pub lastPlace : ℕ
@@ -101,6 +104,14 @@ pub call-line : (e : Entry) (place : ℕ) (t : Table) (buffer : Bytes) (s : Step
 call-line (call c) place t buffer s h k = rw h
 call-line stop place t buffer s h k = never (s .taken) k (ap (λ x. x .taken) h)
 
+-- a call stands in a whole record, so the place after it is 19 bytes further
+pub call-next : (list : List ℕ) (place : ℕ) (t : Table) (buffer : Bytes) → stepped t buffer (recordAt list place) .taken ≡ true → after list place ≡ place + recordLength
+unfolding after
+call-next list place t buffer h = elim (tested (leb (place + recordLength) (length list))) [
+  | inl k ↦ let b = leb-true (place + recordLength) (length list) k in omega arith
+  | inr k ↦ never false (rw (record-short list place (leb-false (place + recordLength) (length list) k)) at h) refl
+]
+
 -- ---- the code's line
 
 -- the text of a line stands in the line buffer; the code tells how long it is
@@ -126,12 +137,12 @@ shows-stop l offset place t buffer stores r n before after e f g h =
     let y = g .2 in
     rw e (f ∙ ap (λ k. record { table = t; place = place; length = k; ends = true }) (g .1), (g .0, (h, omega arith)))
 
--- an answer
-pub shows-answer : (l : Printed) (k report value place : ℕ) (t : Table) (buffer stores : Bytes) (n : ℕ) (before after : List ℕ)
+-- an answer; the code's place is what the reader tells
+pub shows-answer : (l : Printed) (k report value place p : ℕ) (t : Table) (buffer stores : Bytes) (n : ℕ) (before after : List ℕ)
     → l ≡ record { text = answerText k report value; ends = false; place = place; table = t; stores = buffer }
-    → (after ≡ overwritten 0 (answerText k report value) before) × (n ≡ length (answerText k report value)) × (n ≤ 40) → stores ≡ buffer
-    → Shows l (record { table = t; place = place; length = n; ends = false }) before after stores
-shows-answer l k report value place t buffer stores n before after e g h = rw e (ap (λ j. record { table = t; place = place; length = j; ends = false }) (g .1), (g .0, (h, g .2)))
+    → (after ≡ overwritten 0 (answerText k report value) before) × (n ≡ length (answerText k report value)) × (n ≤ 40) → stores ≡ buffer → p ≡ place
+    → Shows l (record { table = t; place = p; length = n; ends = false }) before after stores
+shows-answer l k report value place p t buffer stores n before after e g h q = rw (e, q) (ap (λ j. record { table = t; place = place; length = j; ends = false }) (g .1), (g .0, (h, g .2)))
 
 -- a line of 40 bytes holds every text of numbers of 32 bits
 module _ (buffer : List ℕ) (h : length buffer ≡ 40) where

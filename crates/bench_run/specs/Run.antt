@@ -7,14 +7,12 @@ use lib.ListN.{length}
 use Rattle.lists.specs.Choice.{if_then_else_}
 use Rattle.meaning.specs.Model.{Bytes}
 use Rattle.meaning.specs.Calls.{code}
+use Rattle.texts.specs.Record.{recordLength}
 use Rattle.call_list.specs.Records.{Entry, call, stop, recordAt}
 use Rattle.answer_text.specs.Text.{answerText, stopText}
 use Rattle.table.specs.declared.Table.{Table}
-use Rattle.bench_run.specs.Bench.{benchCalled, zeroTable, zeroStores}
-
--- "A record is 19 bytes"
-abbrev pub recordLength : ℕ
-recordLength = 19
+use Rattle.table.specs.Table.{zeroTable}
+use Rattle.bench_calls.specs.Bench.{benchCalled, zeroStores}
 
 -- "It takes 3,000 records"
 abbrev pub mostRecords : ℕ

@@ -8,9 +8,11 @@ use native.Mathlib.Omega.{arith}
 use Rattle.lists.specs.Choice.{if_then_else_}
 use Rattle.lists.specs.Tests.{tested}
 use Rattle.meaning.specs.Model.{Bytes}
+use Rattle.texts.specs.Record.{recordLength}
 use Rattle.table.specs.declared.Table.{Table}
-use Rattle.bench_run.specs.Bench.{zeroTable, zeroStores}
-use Rattle.bench_run.specs.Run.{recordLength, mostRecords, runFrom, output}
+use Rattle.table.specs.Table.{zeroTable}
+use Rattle.bench_calls.specs.Bench.{zeroStores}
+use Rattle.bench_run.specs.Run.{mostRecords, runFrom, output}
 use Rattle.bench_run.specs.Lines.{lastPlace, lineAt, run-line, goes-on}
 
 -- at most so many lines, from a place on: the next begins where the last one left the place, the table and the store buffer

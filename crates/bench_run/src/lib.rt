@@ -4,25 +4,12 @@ ghost use mathlib.Core.Path.{_≡_};
 ghost use Prim.Native.Nat.{_≤_};
 ghost use lib.ListN.{length};
 ghost use Rattle.answer_text.specs.Text.{answerText, stopText};
-ghost use Rattle.call_list.specs.Decoded.{entryOf};
-ghost use Rattle.call_list.specs.Records.{recordAt};
 ghost use Rattle.texts.specs.Buffer.{overwritten};
-ghost use Rattle.bench_run.specs.Bench.{zeroTable, zeroStores};
+ghost use Rattle.bench_calls.specs.Bench.{zeroStores};
 ghost use Rattle.bench_run.specs.Lines.{lineTold, lineAt};
-
-mod steps;
-
-use call_list::LENGTH;
-use call_list::Record;
+use bench_calls::step;
 use list_reader::read_record;
-use names::Area;
-use stacks::Stacks;
-pub use steps::Stepped;
-pub use steps::step;
-use stores::Stores;
-use table::Areas;
 use table::Table;
-use threads::Threads;
 
 // The bytes of 3,000 records.
 const LIST: usize = 57000;
@@ -33,24 +20,6 @@ pub struct Line {
     pub place: usize,
     pub length: usize,
     pub ends: bool,
-}
-
-// The table before the first call.
-pub fn nothing() -> Table
-    ensures { λ r. ⌜ r ≡ zeroTable ⌝ }
-{
-    let none = Area::new(0, 0);
-    let areas = Areas {
-        stores: none,
-        stacks: none,
-    };
-    Table {
-        areas,
-        free: none,
-        stores: Stores::new(),
-        threads: Threads::new(),
-        stacks: Stacks::new(),
-    }
 }
 
 // The store buffer before the first call.
@@ -77,9 +46,11 @@ pub fn next(
         return ended(table, place, 0);
     }
     if LIST <= place {
-        return ended(table, place, put_stop(line, 57000));
+        return ended(table, place, put_stop(line, LIST as u32));
     }
-    let done = step(table, stores, record_at(list, place));
+    let taken = read_record(list, place);
+    let found = taken.found;
+    let done = step(table, stores, found);
     if !done.taken {
         return ended(table, place, put_stop(line, place as u32));
     }
@@ -87,19 +58,10 @@ pub fn next(
     let table = done.table;
     Line {
         table,
-        place: place + LENGTH,
+        place: taken.next,
         length,
         ends: false,
     }
-}
-
-// What stands at a place of the list, read through its reader.
-fn record_at(list: &[u8], place: usize) -> Record
-    ensures { λ r. ⌜ entryOf r ≡ recordAt (now (list .entry)) place ⌝ }
-{
-    let taken = read_record(list, place);
-    let found = taken.found;
-    found
 }
 
 // The last line.

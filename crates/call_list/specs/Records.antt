@@ -8,7 +8,7 @@ use Rattle.lists.specs.Choice.{if_then_else_}
 use Rattle.lists.specs.Lists.{all}
 use Rattle.meaning.specs.Calls.{Call, root, contextOf, setContext, totalOf, usedOf, freeOf, find, allocate, makeStore, clear, resize, makeStack, destroyStack, addThread, removeThread}
 use Rattle.meaning.specs.Cases.{startAt}
-use Rattle.texts.specs.Counts.{counts}
+use Rattle.texts.specs.Record.{recordLength, firstMark, secondMark, counts}
 
 -- what stands at a place: a call, or what the program stops at
 pub data Entry : Type 0 where
@@ -40,9 +40,9 @@ entry code a b c d = if leb code 15 && zeroAfter (getD counts code 0) a b c d th
 unfoldable pub numberAt : List ℕ → ℕ → ℕ
 numberAt r i = getD r i 0 + 256 * getD r (i + 1) 0 + 65536 * getD r (i + 2) 0 + 16777216 * getD r (i + 3) 0
 
--- "the mark 4D 53 (hexadecimal)"
+-- the mark stands in front
 abbrev pub marked : List ℕ → Bool
-marked r = eqb (getD r 0 0) 77 && eqb (getD r 1 0) 83
+marked r = eqb (getD r 0 0) firstMark && eqb (getD r 1 0) secondMark
 
 -- "the mark, one code byte 0 to 15, then four 32-bit numbers"
 unfoldable pub wholeRecord : List ℕ → Entry
@@ -51,5 +51,5 @@ wholeRecord r = if marked r then entry (getD r 2 0) (numberAt r 3) (numberAt r 7
 -- "A record is 19 bytes": fewer are stopped at
 unfoldable pub recordAt : List ℕ → ℕ → Entry
 recordAt list place =
-    let r = take 19 (drop place list) in
-    if eqb (length r) 19 then wholeRecord r else stop
+    let r = take recordLength (drop place list) in
+    if eqb (length r) recordLength then wholeRecord r else stop

@@ -5,6 +5,10 @@ ghost use lib.ListN.{length, getD};
 ghost use Rattle.meaning.specs.Calls.{root};
 ghost use Rattle.call_list.specs.Records.{call, calls, zeroAfter, entry, numberAt, marked, wholeRecord, recordAt};
 ghost use Rattle.call_list.specs.Decoded.{entryOf};
+use texts::COUNTS;
+use texts::FIRST_MARK;
+use texts::RECORD_LENGTH;
+use texts::SECOND_MARK;
 
 // A call with its numbers, in document 01's order, or what the program stops at.
 pub enum Record {
@@ -27,28 +31,17 @@ pub enum Record {
     Stop,
 }
 
-// How many bytes a record has.
-pub const LENGTH: usize = 19;
-
-// The mark of a record.
-const FIRST: u8 = 0x4D;
-
-const SECOND: u8 = 0x53;
-
-// How many numbers each call takes, by its code.
-const COUNTS: [u8; 16] = [4, 0, 1, 2, 1, 1, 1, 1, 2, 2, 1, 2, 1, 1, 2, 1];
-
 // What stands at a place of the list. Where fewer than 19 bytes follow, or none, it is `Stop`.
 pub fn decode(list: &[u8], place: usize) -> Record
     ensures { λ r. ⌜ entryOf r ≡ recordAt (now (list .entry)) place ⌝ }
 {
-    if list.len() < LENGTH {
+    if list.len() < RECORD_LENGTH {
         return Record::Stop;
     }
-    if list.len() - LENGTH < place {
+    if list.len() - RECORD_LENGTH < place {
         return Record::Stop;
     }
-    let end = place + LENGTH;
+    let end = place + RECORD_LENGTH;
     read(&list[place..end])
 }
 
@@ -75,10 +68,10 @@ fn marked(bytes: &[u8]) -> bool
 {
     let first = bytes[0];
     let second = bytes[1];
-    if first != FIRST {
+    if first != FIRST_MARK {
         return false;
     }
-    second == SECOND
+    second == SECOND_MARK
 }
 
 // The number whose first byte stands at a place, low byte first.

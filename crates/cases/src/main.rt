@@ -6,33 +6,13 @@ use names::Report;
 use names::StackId;
 use names::StoreId;
 use names::ThreadId;
-use stacks::Stacks;
-use stores::Stores;
 use table::Answer;
-use table::Areas;
 use table::Found;
 use table::Table;
-use threads::Threads;
-
-// A table of zeros, to start from.
-fn nothing() -> Table {
-    let none = Area::new(0, 0);
-    let areas = Areas {
-        stores: none,
-        stacks: none,
-    };
-    Table {
-        areas,
-        free: none,
-        stores: Stores::new(),
-        threads: Threads::new(),
-        stacks: Stacks::new(),
-    }
-}
 
 // The table after the first two calls of the example.
 fn t0() -> Table {
-    let zeros = nothing();
+    let zeros = Table::zeros();
     let started = zeros.start(Area::new(4096, 256), Area::new(8192, 64));
     let table = started.table;
     let added = table.add_thread(ThreadId(1), StoreId(4096));

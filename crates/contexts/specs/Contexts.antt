@@ -1,4 +1,4 @@
--- The two tests of a thread's context. Assumes nothing.
+-- The two tests of a thread's context: rule 5's, that it is a listed store, and report 6's, that it is nested in the store to be cleared. Assumes nothing.
 use mathlib.Core.Bool.{Bool}
 use mathlib.Core.List.{List}
 use Prim.Native.Nat.{ℕ}

@@ -1,4 +1,4 @@
-// What the calls ask of the threads' contexts in the list of stores.
+// What rule 5 and report 6 ask of the threads' contexts in the list of stores.
 ghost use mathlib.Core.Path.{_≡_};
 ghost use Rattle.lists.specs.Lists.{all, any};
 ghost use Rattle.meaning.specs.Rules.{threadsPlaced};
@@ -26,7 +26,7 @@ fn all_listed(threads: Threads, stores: Stores) -> bool
 }
 
 // Rule 5.
-pub fn placed(threads: Threads, stores: Stores) -> bool
+pub fn threads_placed(threads: Threads, stores: Stores) -> bool
     ensures { λ r. ⌜ r ≡ threadsPlaced (storesOf stores) (threadsOf threads) ⌝ }
 {
     if !threads.rises() {

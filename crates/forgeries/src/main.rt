@@ -90,7 +90,7 @@ fn with_thread(i: usize, line: Thread) -> Table
     t
 }
 
-// Every line of the threads in use, under a count of one's own.
+// Every line of the threads in use, under the count that is given.
 fn with_all_threads(count: u32) -> Table {
     let mut t = sound();
     let mut threads = Threads::new();

@@ -3,6 +3,7 @@ use mathlib.Core.List.{List}
 use Prim.Native.Nat.{ℕ, _+_, min}
 use lib.ListN.{length}
 use denote.Ref.{now}
+use Rattle.texts.specs.Record.{recordLength}
 use Rattle.call_list.specs.Records.{Entry, recordAt}
 use Rattle.call_list.specs.Decoded.{entryOf}
 use Rattle.list_reader.specs.declared.Reader.{Reader}
@@ -10,7 +11,7 @@ use Rattle.list_reader.specs.declared.Taken.{Taken}
 
 -- the place one record further, and no further than the list's end
 unfoldable pub after : List ℕ → ℕ → ℕ
-after list place = min (place + 19) (length list)
+after list place = min (place + recordLength) (length list)
 
 -- the same bytes, one record further
 abbrev pub movedOn : Reader → Reader

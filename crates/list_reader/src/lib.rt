@@ -4,9 +4,9 @@ ghost use mathlib.Core.Path.{_≡_};
 ghost use Rattle.call_list.specs.Records.{recordAt};
 ghost use Rattle.call_list.specs.Decoded.{entryOf};
 ghost use Rattle.list_reader.specs.Read.{after, movedOn, takenAt, takenOf};
-use call_list::LENGTH;
 use call_list::Record;
 use call_list::decode;
+use texts::RECORD_LENGTH;
 
 pub struct Reader<'a> {
     list: &'a [u8],
@@ -47,13 +47,13 @@ pub fn moved<'a>(reader: Reader<'a>) -> Reader<'a>
 fn place_after(list: &[u8], place: usize) -> usize
     ensures { λ r. ⌜ r ≡ after (now (list .entry)) place ⌝ }
 {
-    if list.len() < LENGTH {
+    if list.len() < RECORD_LENGTH {
         return list.len();
     }
-    if list.len() - LENGTH < place {
+    if list.len() - RECORD_LENGTH < place {
         return list.len();
     }
-    place + LENGTH
+    place + RECORD_LENGTH
 }
 
 // What stands at a place of the list, and the place after it.

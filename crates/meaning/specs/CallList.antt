@@ -24,7 +24,7 @@ c refusedWith r = record { call = c; report = r; value = 0; steps = 0 }
 abbrev pub _finds_below_ : Call → ℕ → ℕ → Line
 c finds s below n = record { call = c; report = 0; value = s; steps = n }
 
--- the table after some calls
+-- the model after some calls
 unfoldable pub after : Model → Bytes → List Call → Model
 after m bs [] = m
 after m bs (c ∷ cs) =

@@ -51,7 +51,7 @@ code (destroyStack k) = 13
 code (addThread t s) = 14
 code (removeThread t) = 15
 
--- ---- checks, in their order
+-- ---- the middle column: the checks of each call in their order, without 16
 
 unfoldable pub checks : Model → Bytes → Call → List Check
 checks m bs (start a b) = 4 when tooSmall a ∷ 15 when badAreas a b ∷ []
@@ -84,6 +84,7 @@ pub record Outcome : Type 0 where
   pub model : Model
   pub bytes : Bytes
 
+-- an accepted call with value v
 abbrev pub accepted : ℕ → Model → Bytes → Outcome
 accepted v m bs = record { report = 0; value = v; steps = 0; model = m; bytes = bs }
 
@@ -95,6 +96,7 @@ found s m bs = record { report = 0; value = s; steps = depth (m .stores) s; mode
 abbrev pub refused : ℕ → Model → Bytes → Outcome
 refused r m bs = record { report = r; value = 0; steps = 0; model = m; bytes = bs }
 
+-- the last column: value and change of each call
 unfoldable pub change : Model → Bytes → Call → Outcome
 change m bs (start a b) = accepted (a .start) (started m a b) bs
 change m bs root = accepted (rootOf (m .stores)) m bs
@@ -147,6 +149,6 @@ decide ks m bs o =
 unfoldable pub row : Model → Bytes → Call → Outcome
 row m bs c = decide (checks m bs c) m bs (change m bs c)
 
--- a call whole
+-- a call whole, as the manager makes it
 unfoldable pub step : Model → Bytes → Call → Outcome
 step m bs c = decide (allChecks m bs c) m bs (change m bs c)

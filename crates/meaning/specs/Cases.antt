@@ -5,11 +5,12 @@ use mathlib.Core.List.{List, [], _∷_, map}
 use mathlib.Core.Option.{Option, none, some, Option·map}
 use Prim.Native.Nat.{ℕ}
 use lib.ListN.{replicate}
-use Rattle.meaning.specs.Model.{Run, Model, Bytes, tableLimits, _holds_, _inside_, _apartFrom_}
+use Rattle.meaning.specs.Model.{Model, Bytes, _holds_, _inside_, _apartFrom_}
 use Rattle.meaning.specs.Nesting.{nested, depth, storeHolding}
 use Rattle.meaning.specs.Rules.{areasSound, rootSound, storesHang, storesFit, threadsPlaced, stacksFit, runSound, sound}
 use Rattle.meaning.specs.Reports.{firstReport}
 use Rattle.meaning.specs.CallList.{Line, _answers_, _refusedWith_, _finds_below_, after, told}
+use Rattle.meaning.specs.Parts.{storesAlone}
 use Rattle.meaning.specs.Calls.{Call, start, root, contextOf, setContext, totalOf, usedOf, freeOf, find, allocate, makeStore, clear, resize, makeStack, destroyStack, addThread, removeThread, checks, change, allChecks, step}
 
 -- ---- what a case is
@@ -19,10 +20,12 @@ pub record Case : Type 0 where
   pub lines : List Line
   pub table : Option Model
 
+-- a case that says no more than what is told
 abbrev pub says : List Line → Case
 says ls = record { lines = ls; table = none }
 
 infix 60 _leaving_
+-- a case that also says the table after it
 abbrev pub _leaving_ : List Line → Model → Case
 ls leaving m = record { lines = ls; table = some m }
 
@@ -30,9 +33,7 @@ ls leaving m = record { lines = ls; table = some m }
 
 -- a table of zeros
 unfoldable pub zeros : Model
-zeros =
-    let nothing : Run = record { start = 0; length = 0 } in
-    record { storeArea = nothing; stackArea = nothing; stores = []; threads = []; stacks = []; freeRun = nothing; limits = tableLimits }
+zeros = storesAlone [] []
 
 -- the lent store area
 unfoldable pub lent : Bytes
@@ -53,6 +54,7 @@ played c =
 
 -- ---- the fifteen
 
+-- cases 1 to 15, in document 01's order
 unfoldable pub fifteen : List Case
 fifteen =
     says (allocate 1 236 answers 4116 ∷ freeOf 4096 answers 0 ∷ [])

@@ -107,24 +107,27 @@ stackName k = k .start
 abbrev pub listed : List Store → ℕ → Bool
 listed ss s = has storeName ss s
 
--- the listed store with this identifier; for one that is not listed, an empty store that is its own parent
+-- what stands for a store that is not listed: an empty one that is its own parent
 abbrev pub noSuchStore : ℕ → Store
 noSuchStore s = record { start = s; total = 0; used = 0; parent = s }
 
+-- the store of this identifier
 abbrev pub storeOf : List Store → ℕ → Store
 storeOf ss s = at storeName noSuchStore ss s
 
--- the context of a listed thread; 0 for one that is not listed
+-- what stands for a thread that is not listed: context 0
 abbrev pub noSuchThread : ℕ → Thread
 noSuchThread t = record { identifier = t; context = 0 }
 
+-- the context of this thread
 abbrev pub contextIn : List Thread → ℕ → ℕ
 contextIn ts t = at threadName noSuchThread ts t .context
 
--- the listed stack with this identifier; an empty one where none is listed
+-- what stands for a stack that is not listed: an empty one
 abbrev pub noSuchStack : ℕ → Stack
 noSuchStack k = record { start = k; total = 0 }
 
+-- the stack of this identifier
 abbrev pub stackOf : List Stack → ℕ → Stack
 stackOf ks k = at stackName noSuchStack ks k
 

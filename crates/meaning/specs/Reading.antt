@@ -1,4 +1,4 @@
--- An area of the table as a run of the model, and back. Assumes nothing.
+-- An area of the table as a run of the model, and back; and whether a number fits the table's 32 bits. Assumes nothing.
 use mathlib.Core.Bool.{Bool}
 use Prim.Native.Nat.{ℕ}
 use lib.Dec.{ltb}

@@ -1,13 +1,14 @@
 -- When each report number is given: document 01, "Report numbers". A condition stands under its number; 16 is `sound` of Rules.antt with
 -- the table's rule 8, and 3 is not used.
 -- Assumes nothing.
-use mathlib.Core.Bool.{Bool, not, _&&_, _||_}
+use mathlib.Core.Bool.{Bool, true, false, not, _&&_, _||_}
 use mathlib.Core.List.{List, [], _∷_}
+use mathlib.Core.Path.{_≡_}
 use Prim.Native.Nat.{ℕ, _+_}
 use lib.ListN.{length}
 use lib.Dec.{leb, ltb, eqb}
 use Rattle.lists.specs.Choice.{if_then_else_}
-use Rattle.lists.specs.Lists.{any, rest}
+use Rattle.lists.specs.Lists.{all, any, rest}
 use Rattle.lists.specs.Keyed.{has}
 use Rattle.names.specs.Overhead.{storeOverhead, storeTaken}
 use Rattle.meaning.specs.Model.{Run, Store, Model, Bytes, end, _holds_, whole, free, freePart, threadName, stackName, listed, storeOf, contextIn, rootOf}
@@ -27,6 +28,15 @@ n when b = record { report = n; condition = b }
 unfoldable pub firstReport : List Check → ℕ
 firstReport [] = 0
 firstReport (k ∷ ks) = if k .condition then k .report else firstReport ks
+
+-- r is the report of the first of the checks whose condition holds: its own holds and no earlier one does
+pub data First (r : ℕ) : List Check → Type 0 where
+  here : {k : Check} {ks : List Check} → k .condition ≡ true → k .report ≡ r → First r (k ∷ ks)
+  later : {k : Check} {ks : List Check} → k .condition ≡ false → First r ks → First r (k ∷ ks)
+
+-- no condition of the checks holds
+abbrev pub NoneHolds : List Check → Type 0
+NoneHolds ks = all (λ k. not (k .condition)) ks ≡ true
 
 -- the store of a listed thread's context
 abbrev pub contextStore : Model → ℕ → Store

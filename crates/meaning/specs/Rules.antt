@@ -9,9 +9,11 @@ use Rattle.lists.specs.Keyed.{rising}
 use Rattle.names.specs.Overhead.{storeOverhead, stackOverhead}
 use Rattle.meaning.specs.Model.{Run, Store, Thread, Stack, Model, end, _inside_, _apartFrom_, whole, usedPart, stackRun, storeName, threadName, stackName, listed}
 
+-- rule 1: the most bytes of an area
 abbrev pub longestArea : ℕ
 longestArea = 16_777_216
 
+-- rule 1: the highest end of an area
 abbrev pub lastEnd : ℕ
 lastEnd = 2_147_483_648
 

@@ -40,6 +40,7 @@ partOf storeArea stackArea a n =
     if storeArea holds a then record { area = ofStores; offset = a - storeArea .start; length = n }
     else record { area = ofStacks; offset = a - stackArea .start; length = n }
 
+-- an empty part; document 01 leaves open where, and it stands at the start of the store area
 abbrev pub emptyPart : Part
 emptyPart = record { area = ofStores; offset = 0; length = 0 }
 

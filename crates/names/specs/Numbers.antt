@@ -1,4 +1,4 @@
--- The number of each report: document 01, "Report numbers". Assumes nothing.
+-- The number of each report: document 01, "Report numbers"; and what is told of a call in these numbers. Assumes nothing.
 use Prim.Native.Nat.{ℕ}
 use Rattle.names.specs.declared.report.Reply.{Reply}
 use Rattle.names.specs.declared.report.Report.{Report}

@@ -6,5 +6,5 @@ pub struct StoreId(pub u32);
 // A stack's identifier is its first address.
 pub struct StackId(pub u32);
 
-// A thread's identifier is any number.
+// A thread's identifier is any 32-bit number.
 pub struct ThreadId(pub u32);

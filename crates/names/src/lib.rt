@@ -1,4 +1,5 @@
-// The words of the manager: three kinds of identifier, the report, and the lines of the table with the three overheads.
+// The words of the manager: three kinds of identifier, the report, the lines of the table with the three overheads, and the
+// first number past 32 bits.
 mod ids;
 mod lines;
 mod report;
@@ -13,3 +14,6 @@ pub use lines::Store;
 pub use lines::Thread;
 pub use report::Reply;
 pub use report::Report;
+
+// The first number that does not fit 32 bits.
+pub const TOO_HIGH: u64 = 4294967296;

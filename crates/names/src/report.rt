@@ -1,4 +1,4 @@
-// The report of a call. The numbers follow the requirements report's order; 3 is not used.
+// The report of a call. Numbers 0 to 13 follow the requirements report's order, and 3 is not used; 14 to 16 are document 01's.
 ghost use mathlib.Core.Path.{_≡_};
 ghost use Rattle.names.specs.Numbers.{numberOf};
 

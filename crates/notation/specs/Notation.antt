@@ -6,7 +6,7 @@ use Prim.Native.Nat.{ℕ, _+_}
 use lib.Dec.{ltb, leb, eqb}
 use lib.ListN.{length, drop, getD}
 use Rattle.lists.specs.Choice.{if_then_else_}
-use Rattle.texts.specs.Counts.{counts}
+use Rattle.texts.specs.Record.{counts}
 use Rattle.notation.specs.Numbers.{front, numberAt}
 use Rattle.notation.specs.declared.Call.{Call}
 use Rattle.notation.specs.declared.Number.{Number}

@@ -11,7 +11,7 @@ use lib.Seq.{drop-drop, drop-append-seam, getD-drop, take-all}
 use borrow.Author.Tests.{leb-true, lt-ltb, le-leb, lt-leb, eq-eqb, ne-eqb}
 use Rattle.lists.specs.Lists.{all}
 use Rattle.lists.specs.Tests.{and-iff}
-use Rattle.texts.specs.Counts.{counts}
+use Rattle.texts.specs.Record.{counts}
 use Rattle.texts.specs.Decimal.{decimal, isDigit}
 use Rattle.texts.specs.DecimalLaws.{value-decimal, decimal-digits, decimal-some}
 use Rattle.notation.specs.Numbers.{front, numberAt}

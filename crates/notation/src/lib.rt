@@ -4,6 +4,7 @@ ghost use Prim.Native.Nat.{_+_, _-_, _*_, _≤_, min};
 ghost use Rattle.texts.specs.Decimal.{isDigit};
 ghost use Rattle.notation.specs.Numbers.{numberAt, digitsFrom};
 ghost use Rattle.notation.specs.Notation.{isBlank, pastBlanks, stands, ends, argument, refused, closed, arguments, opened, callAt, written};
+use texts::COUNTS;
 
 // What stands at a place of the text: a call, nothing more, or what is no call, with the place where it goes wrong.
 pub enum Written {
@@ -38,9 +39,6 @@ pub struct Digits {
 const ABOVE: u64 = 4294967296;
 
 const LAST_CODE: u32 = 15;
-
-// How many numbers each call takes, by its code.
-const COUNTS: [u8; 16] = [4, 0, 1, 2, 1, 1, 1, 1, 2, 2, 1, 2, 1, 1, 2, 1];
 
 // The next call from a place on.
 pub fn read(text: &[u8], place: usize) -> Written
@@ -156,7 +154,7 @@ fn argument(text: &[u8], count: u8, earlier: u8, at: usize) -> Number
     number_at(text, at + 1)
 }
 
-// What is no number is no call.
+// What is no number is no call. It is asked of nothing else: the second arm only completes the match.
 fn refused(n: Number) -> Written
     ensures { λ r. ⌜ r ≡ refused n ⌝ }
 {

@@ -1,6 +1,6 @@
 -- Demand 1: "Every call, on every table and every argument, returns. A forged table (except at a start) and an impossible size are refused by number. A refused
 -- call returns the value 0 and leaves the table and every lent byte as it was." That every call returns is proved of every function by the language.
--- Proof1.antt proves the rest. Assumes nothing.
+-- `demand1` of Proof1.antt proves the rest, of every table, every call and all bytes. Assumes nothing.
 use mathlib.Core.Bool.{Bool, true, false, not}
 use mathlib.Core.Path.{_≡_}
 use lib.Dec.{ltb}
@@ -44,6 +44,7 @@ pub record Demand1 (t : Table) (bs : Bytes) (c : Call) (g : Given) : Type 0 wher
   pub size : impossible (reading t) c ≡ true → Refused g
   -- "A refused call returns the value 0
   pub value : Refused g → g .value ≡ 0
+  -- (call 7's steps: "0 with a refusal")
   pub steps : Refused g → g .steps ≡ 0
   -- and leaves the table
   pub table : Refused g → g .table ≡ t

@@ -1,13 +1,14 @@
 -- Demand 2: "On a sound table each call answers and changes the table exactly as documents 000 and 01 say. Each refusal is given exactly when its condition
--- holds and no earlier one does." What a refusal leaves is in demand 1. Proof2.antt proves it. Assumes nothing.
+-- holds and no earlier one does." What a refusal leaves is in demand 1. `demand2` of Proof2.antt proves it of every table whose arrays are as long as they are
+-- declared (`Sized`), where the table is sound or the call is a start. Assumes nothing.
 use mathlib.Core.Bool.{true}
 use mathlib.Core.Logic.{_↔_}
 use mathlib.Core.Path.{_≡_}
 use Prim.Native.Nat.{ℕ}
 use Rattle.names.specs.Numbers.{numberOf}
 use Rattle.meaning.specs.Model.{Bytes}
+use Rattle.meaning.specs.Reports.{First, NoneHolds}
 use Rattle.meaning.specs.Calls.{Call, Outcome, checks, change}
-use Rattle.meaning.specs.Laws.Step.{First, NoneHolds}
 use Rattle.table.specs.declared.Table.{Table}
 use Rattle.table.specs.Table.{reading, written, soundTable}
 use Rattle.table.specs.Calls.{Called}

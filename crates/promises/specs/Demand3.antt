@@ -2,7 +2,8 @@
 -- among them, S neither removed nor resized meanwhile, and the store area's bytes changed by these calls alone. Drop the questions, the refused calls and the
 -- work done inside S; where a thread was placed in a store nested in S, place it in S. The rest, run from the same start, is all accepted with the same
 -- answers, and ends with the same table and the same bytes outside S." What a question is, what work inside S is and where a thread is placed instead are the
--- words of Stretch.antt, asked of what the table reads as at that moment. Proof3.antt proves it. Assumes nothing.
+-- words of Stretch.antt, asked of what the table reads as at that moment. `demand3` of Proof3.antt proves it of every table whose arrays are as long as they are
+-- declared (`Sized`), whatever the rest hands back. Assumes nothing.
 use mathlib.Core.Bool.{Bool, true, not, _&&_}
 use mathlib.Core.List.{List, [], _∷_, _++_, map}
 use mathlib.Core.Path.{_≡_}
@@ -80,3 +81,5 @@ pub record TakenBackOf (S : ℕ) (t : Table) (bs : Bytes) (cs : List Call) (gs h
   pub table : lastTable t hs ≡ lastTable t gs
   -- and the same bytes outside S."
   pub bytes : SameOutside (reading t .storeArea) (whole (storeOf (reading t .stores) S)) (lastBytes bs gs) (lastBytes bs hs)
+  -- (S is where it was, so outside S is the same at the end as at the start)
+  pub place : whole (storeOf (reading (lastTable t gs) .stores) S) ≡ whole (storeOf (reading t .stores) S)

@@ -21,8 +21,8 @@ use Rattle.meaning.specs.Laws.Step.{step-refused}
 use Rattle.laws.specs.Fits.{limits-stay}
 use Rattle.stretches.specs.Stretch as stretch
 use Rattle.table.specs.declared.Table.{Table}
-use Rattle.table.specs.Table.{reading, written, rule8, soundTable}
-use Rattle.table.specs.Laws.{Sized, reading-written, written-reading, broken-none}
+use Rattle.table.specs.Table.{reading, written, rule8, soundTable, Sized}
+use Rattle.table.specs.Laws.{reading-written, written-reading, broken-none}
 use Rattle.sound_tables.specs.SoundTables.{accepted-table-sound, accepted-table-sized}
 use Rattle.promises.specs.Handed.{Given, Handed, Made, none, first, lastTable, lastBytes}
 use Rattle.promises.specs.OneAnswer.{handed-called}

@@ -27,7 +27,7 @@ seenIn g = record { table = g .table; report = numberOf (g .report); value = g .
 abbrev pub seenFoundIn : Given → SeenFound
 seenFoundIn g = record { table = g .table; report = numberOf (g .report); value = g .value; steps = g .steps }
 
--- The promise of a method that is lent no bytes and tells no steps.
+-- The promise of a method that is lent no bytes and tells no steps: `told`. Steps and bytes are no part of its answer; they stand here as 0 and as they were.
 pub record ByAnswer (t : Table) (bs : Bytes) (c : Call) (g : Given) : Type 0 where
   pub told : seenIn g ≡ answer (called t [] c)
   pub steps : g .steps ≡ 0

@@ -7,3 +7,4 @@ pub mod Proof2
 pub mod Demand3
 pub mod Follow
 pub mod Proof3
+pub mod RunAnswers

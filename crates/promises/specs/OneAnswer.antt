@@ -16,7 +16,7 @@ use Rattle.meaning.specs.Reports.{Check, firstReport}
 use Rattle.meaning.specs.Calls.{Call, start, root, contextOf, setContext, totalOf, usedOf, freeOf, find, allocate, makeStore, clear, resize, makeStack, destroyStack, addThread, removeThread, code, accepted, checks, change, allChecks, decide, step}
 use Rattle.table.specs.declared.Table.{Table}
 use Rattle.table.specs.Table.{reading, soundTable}
-use Rattle.table.specs.Calls.{Called, unsound, settled, called, answer}
+use Rattle.table.specs.Calls.{Called, unsound, settled, called}
 use Rattle.promises.specs.Handed.{Given, inNumbers, ByAnswer, Handed}
 
 -- a report by its number

@@ -10,12 +10,12 @@ use Rattle.lists.specs.Tests.{tested, never, and-iff}
 use Rattle.names.specs.Numbers.{numberOf}
 use Rattle.meaning.specs.Model.{Bytes}
 use Rattle.meaning.specs.Rules.{sound}
-use Rattle.meaning.specs.Reports.{Check}
+use Rattle.meaning.specs.Reports.{Check, First, here, later, NoneHolds}
 use Rattle.meaning.specs.Calls.{Call, code, checks, allChecks, step}
-use Rattle.meaning.specs.Laws.Step.{First, here, later, NoneHolds, report-exact, accepted-exact, step-accepted}
+use Rattle.meaning.specs.Laws.Step.{report-exact, accepted-exact, step-accepted}
 use Rattle.table.specs.declared.Table.{Table}
-use Rattle.table.specs.Table.{reading, written, soundTable}
-use Rattle.table.specs.Laws.{Sized, broken-none}
+use Rattle.table.specs.Table.{reading, written, soundTable, Sized}
+use Rattle.table.specs.Laws.{broken-none}
 use Rattle.table.specs.Calls.{settled, called}
 use Rattle.sound_tables.specs.SoundTables.{accepted-table-sound}
 use Rattle.promises.specs.Handed.{Given, Handed}

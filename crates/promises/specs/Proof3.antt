@@ -3,14 +3,12 @@ use mathlib.Core.List.{List, [], _∷_, _++_, map, List·Memᴰ·head as here, L
 use mathlib.Core.Path.{_≡_, sym, _∙_, ap, subst}
 use Prim.Native.Nat.{ℕ}
 use Rattle.lists.specs.Lists.{_∈_}
-use Rattle.meaning.specs.Model.{Bytes}
+use Rattle.meaning.specs.Model.{Bytes, whole, storeOf}
 use Rattle.meaning.specs.Calls.{Call, clear}
-use Rattle.meaning.specs.CallList.{after}
 use Rattle.stretches.specs.Stretch.{Stretch, theRest}
 use Rattle.stretches.specs.TakesBack.{clear-takes-back}
 use Rattle.table.specs.declared.Table.{Table}
-use Rattle.table.specs.Table.{reading, written}
-use Rattle.table.specs.Laws.{Sized}
+use Rattle.table.specs.Table.{reading, written, Sized}
 use Rattle.promises.specs.Handed.{Given, Handed, Made, none, first, lastTable, lastBytes}
 use Rattle.promises.specs.Demand3.{lineOf, linesOf, restOf, StretchOf, TakenBackOf}
 use Rattle.promises.specs.Follow.{Good, good-sound, good-written, follows, last-good, last-model, last-bytes, lines-told, kept-stayed, lasts-same}
@@ -36,7 +34,6 @@ module _ (S : ℕ) (t : Table) (sized : Sized t) (bs : Bytes) (cs : List Call) (
   -- the calls are a stretch of the meaning
   meant : Stretch S (reading t) bs cs
   meant =
-      let m = after (reading t) bs (s .before) in
       let before = last-good (s .madeBefore) good in
       let here-model = last-model (s .madeBefore) good in
       let here-bytes = last-bytes (s .madeBefore) good in
@@ -70,4 +67,5 @@ module _ (S : ℕ) (t : Table) (sized : Sized t) (bs : Bytes) (cs : List Call) (
         answers = rw (rest-same) (lines ∙ back .answers ∙ sym kept);
         table = sym (good-written _ (last-good made good)) ∙ ap written (last-model run good ∙ back .table ∙ sym (last-model (s .made) good)) ∙ good-written _ (last-good (s .made) good);
         bytes = rw (last-bytes run good, last-bytes (s .made) good) (back .bytes);
+        place = ap (λ m. whole (storeOf (m .stores) S)) (last-model (s .made) good) ∙ back .place;
       }

@@ -1,1 +1,1 @@
-// An accepted call leaves a sound table. No code: the theorem stands in specs/.
+// The three demands, of all that the table's methods hand back. No code: the statements and their proofs stand in specs/.

@@ -2,25 +2,21 @@
 ghost use mathlib.Core.Path.{_≡_};
 ghost use Rattle.texts.specs.Buffer.{placed, placeAfter};
 ghost use Rattle.record_bytes.specs.Records.{lowFirst, recordBytes};
+use texts::FIRST_MARK;
+use texts::RECORD_LENGTH;
+use texts::SECOND_MARK;
 
-const LENGTH: usize = 19;
-
-// The mark of a record.
-const FIRST: u8 = 0x4D;
-
-const SECOND: u8 = 0x53;
-
-// The record at a place of the buffer. The answer is the place after it; where it does not fit nothing is written, and the answer is `at`.
+// The record at a place of the buffer. Hands back the place after it; where it does not fit nothing is written, and it hands back `at`.
 pub fn write_record(buffer: &mut [u8], at: usize, code: u8, a: u32, b: u32, c: u32, d: u32) -> usize
     ensures { λ r. ⌜ (now (buffer .exit) ≡ placed at (recordBytes code a b c d) (now (buffer .entry))) × (r ≡ placeAfter at (recordBytes code a b c d) (now (buffer .entry))) ⌝ }
 {
-    if buffer.len() < LENGTH {
+    if buffer.len() < RECORD_LENGTH {
         return at;
     }
-    if buffer.len() - LENGTH < at {
+    if buffer.len() - RECORD_LENGTH < at {
         return at;
     }
-    let end = at + LENGTH;
+    let end = at + RECORD_LENGTH;
     let made = bytes_of(code, a, b, c, d);
     bytes::copy(&made, &mut buffer[at..end]);
     end
@@ -34,8 +30,8 @@ fn bytes_of(code: u8, a: u32, b: u32, c: u32, d: u32) -> [u8; 19]
     let c = low_first(c);
     let d = low_first(d);
     [
-        FIRST,
-        SECOND,
+        FIRST_MARK,
+        SECOND_MARK,
         code,
         a[0],
         a[1],

@@ -67,7 +67,7 @@ fn read_text(text: &mut [u8]) -> Input
     }
 }
 
-// A read failed, and not for a signal that came before any byte: then it is tried again.
+// Whether a read failed for good: one that a signal interrupted before any byte came is tried again.
 fn failed(got: isize) -> bool {
     if got < 0 {
         return os::errno() != libc::EINTR;

@@ -9,7 +9,7 @@ use lib.ListN.{length, drop, getD}
 use lib.Seq.{drop-append-add}
 use borrow.Author.Tests.{leb-true, le-leb}
 use Rattle.meaning.specs.Calls.{Call, root}
-use Rattle.texts.specs.Counts.{counts}
+use Rattle.texts.specs.Record.{counts}
 use Rattle.call_list.specs.Records.{call, calls, zeroAfter, entry, numberAt, wholeRecord, recordAt}
 use Rattle.notation.specs.ReadBack.{isWord, all-at}
 use Rattle.record_bytes.specs.Records.{recordBytes}

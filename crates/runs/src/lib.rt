@@ -46,7 +46,7 @@ pub fn report(
     Report::UnknownAddress
 }
 
-// Where a run of n bytes from an offset ends, or the area before it.
+// Where a run of n bytes from an offset ends, or the area's end where that comes first.
 fn stop(length: usize, from: usize, n: u32) -> usize
     requires { ⌜ from ≤ length ⌝ }
     ensures { λ r. ⌜ r ≡ min length (from + n) ⌝ }

@@ -12,10 +12,10 @@ use Rattle.lists.specs.Tests.{never, not-false-iff}
 use Rattle.meaning.specs.Model.{Model, Bytes, threadName, listed}
 use Rattle.meaning.specs.Rules.{sound}
 use Rattle.meaning.specs.Facts.{Sound}
-use Rattle.meaning.specs.Reports.{Check}
+use Rattle.meaning.specs.Reports.{Check, First, here, later}
 use Rattle.meaning.specs.Calls.{Call, code, checks, allChecks, step}
 use Rattle.meaning.specs.Laws.Agree.{sound-agrees}
-use Rattle.meaning.specs.Laws.Step.{First, here, later, step-refused, report-exact, accepted-sound}
+use Rattle.meaning.specs.Laws.Step.{step-refused, report-exact, accepted-sound}
 use Rattle.schemas.specs.Reports.{MMReport, MMokay, number, number-names, number-most}
 use Rattle.schemas.specs.Blocks.{Block, SameBlock, ΞMemoryBlock}
 use Rattle.schemas.specs.Stores.{Backing, BackingStore, SameStore, ΞBackingStore}

@@ -16,8 +16,8 @@ use Rattle.stores.specs.Stores
 use Rattle.threads.specs.Threads
 use Rattle.stacks.specs.Stacks
 use Rattle.table.specs.declared.Table.{Table}
-use Rattle.table.specs.Table.{reading, written, rule8, brokenRule, soundTable}
-use Rattle.table.specs.Laws.{Sized, reading-written, broken-none}
+use Rattle.table.specs.Table.{reading, written, rule8, brokenRule, soundTable, Sized}
+use Rattle.table.specs.Laws.{reading-written, broken-none}
 use Rattle.sound_tables.specs.Clean.{stores-clean, threads-clean, stacks-clean}
 
 -- a sound model within the limits of a table is a sound table, written

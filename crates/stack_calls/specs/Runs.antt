@@ -1,4 +1,4 @@
--- What the two calls need to know of the new free run. Assumes nothing.
+-- What calls 12 and 13 need to know of the new free run. Assumes nothing.
 use mathlib.Core.Bool.{Bool, true, false}
 use mathlib.Core.Path.{_≡_, refl, _∙_, ap}
 use Prim.Native.Nat.{ℕ, _+_, _-_, _<_, _≤_, min}

@@ -5,7 +5,7 @@ use lib.Dec.{eqb}
 use Rattle.lists.specs.Choice.{if_then_else_}
 use Rattle.meaning.specs.Model.{Run}
 use Rattle.meaning.specs.Calls.{Call, Outcome, row}
-use Rattle.meaning.specs.Parts.{stacksAlone}
+use Rattle.meaning.specs.Parts.{stacksAlone, toldBy}
 use Rattle.meaning.specs.Reading.{runOf, areaOf, fits32}
 use Rattle.names.specs.declared.lines.Area.{Area}
 use Rattle.names.specs.Numbers.{Told, toldOf}
@@ -21,10 +21,6 @@ pub record Seen : Type 0 where
 
 abbrev pub seen : Piled → Seen
 seen p = record { stacks = p .stacks; free = p .free; told = toldOf (p .reply) }
-
--- the report and the value of a call by its row
-abbrev pub toldBy : Outcome → Told
-toldBy o = record { report = o .report; value = o .value }
 
 -- a refusal leaves both as they are
 abbrev pub kept : Stacks → Area → Told → Seen

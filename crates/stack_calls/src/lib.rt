@@ -9,6 +9,7 @@ use names::Reply;
 use names::Report;
 use names::Stack;
 use names::StackId;
+use names::TOO_HIGH;
 use stacks::Stacks;
 
 // The stacks and the free run after a call, and what it tells.
@@ -59,7 +60,7 @@ pub fn destroy_stack(stacks: Stacks, area: Area, free: Area, stack: StackId) -> 
     if apart {
         return refused(stacks, free, Report::Fragmentation);
     }
-    if 4294967295 < (free.length as u64) + (bytes.length as u64) {
+    if TOO_HIGH <= (free.length as u64) + (bytes.length as u64) {
         return refused(stacks, free, Report::UnsoundTable);
     }
     accepted(stacks.without(stack), areas::joined(free, bytes), 0)

@@ -24,8 +24,8 @@ abbrev pub stackEnd : Stack → ℕ
 stackEnd k = end (stackRun k)
 
 -- the bytes that a stack takes
-abbrev pub totalOf : Stack → ℕ
-totalOf k = k .total
+abbrev pub stackBytes : Stack → ℕ
+stackBytes k = k .total
 
 -- a stack that starts at e or later, and is as rule 6 asks of one stack
 abbrev pub fitsFrom : Run → Run → ℕ → Stack → Bool

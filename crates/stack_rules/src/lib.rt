@@ -6,7 +6,7 @@ ghost use Rattle.lines.specs.Shape.{live};
 ghost use Rattle.meaning.specs.Rules.{stacksFit, runSound};
 ghost use Rattle.meaning.specs.Reading.{runOf};
 ghost use Rattle.stacks.specs.Stacks.{view, stackLine, reading};
-ghost use Rattle.stack_rules.specs.Pass.{stackEnd, fitsFrom, inOrder, totalOf};
+ghost use Rattle.stack_rules.specs.Pass.{stackEnd, fitsFrom, inOrder, stackBytes};
 use names::Area;
 use names::Stack;
 use stacks::Stacks;
@@ -59,7 +59,7 @@ fn lines_fit(lines: [Stack; 32], n: usize, area: Area, run: Area) -> bool
 // A first number and the totals of the first n stacks, as a whole number.
 fn bytes_with(lines: [Stack; 32], n: usize, first: u32) -> u64
     requires { ⌜ n ≤ 32 ⌝ }
-    ensures { λ r. ⌜ r ≡ sum totalOf (live stackLine n lines) + first ⌝ }
+    ensures { λ r. ⌜ r ≡ sum stackBytes (live stackLine n lines) + first ⌝ }
 {
     let mut bytes = first as u64;
     let mut i: usize = 0;

@@ -21,7 +21,7 @@ pub struct Stacks {
 }
 
 // How many lines are read.
-fn used(count: u32) -> usize
+fn in_use(count: u32) -> usize
     ensures { λ r. ⌜ r ≡ min count 32 ⌝ }
 {
     if count < 32 { count as usize } else { 32 }
@@ -159,14 +159,14 @@ impl Stacks {
     pub fn len(self) -> usize
         ensures { λ r. ⌜ r ≡ length (reading self) ⌝ }
     {
-        used(self.count)
+        in_use(self.count)
     }
 
     pub fn has(self, id: StackId) -> bool
         ensures { λ r. ⌜ r ≡ has stackName (reading self) (id .0) ⌝ }
     {
         let lines = self.lines;
-        let n = used(self.count);
+        let n = in_use(self.count);
         place_of(lines, n, id) < n
     }
 
@@ -175,7 +175,7 @@ impl Stacks {
         ensures { λ r. ⌜ r ≡ back (stackOf (reading self) (id .0)) ⌝ }
     {
         let lines = self.lines;
-        let n = used(self.count);
+        let n = in_use(self.count);
         let i = place_of(lines, n, id);
         if i < n {
             return lines[i];
@@ -188,7 +188,7 @@ impl Stacks {
         ensures { λ r. ⌜ r ≡ (if ltb (length (reading self)) 32 then written (insert stackName (view stack) (reading self)) else self) ⌝ }
     {
         let lines = self.lines;
-        let n = used(self.count);
+        let n = in_use(self.count);
         if n == 32 {
             return self;
         }
@@ -204,7 +204,7 @@ impl Stacks {
         ensures { λ r. ⌜ r ≡ written (remove stackName (id .0) (reading self)) ⌝ }
     {
         let lines = self.lines;
-        let n = used(self.count);
+        let n = in_use(self.count);
         without_line(lines, n, id)
     }
 

@@ -1,6 +1,6 @@
--- The calls on stores, by their rows of document 01's table, on the lists that they look at. Assumes nothing.
+-- The calls that take or give back room, by their rows of document 01's table, on the lists that they look at. Assumes nothing.
 use mathlib.Core.Bool.{Bool, _&&_}
-use mathlib.Core.List.{List, []}
+use mathlib.Core.List.{[]}
 use mathlib.Core.Path.{_≡_}
 use Prim.Native.Nat.{ℕ, _+_, _-_}
 use lib.Dec.{eqb}
@@ -8,23 +8,16 @@ use borrow.Author.Tests.{ne-eqb}
 use Rattle.lists.specs.Choice.{if_then_else_}
 use Rattle.names.specs.Numbers.{Told, toldOf}
 use Rattle.names.specs.Overhead.{storeTaken}
-use Rattle.meaning.specs.Model.{Store, Thread, Model, storeOf}
+use Rattle.meaning.specs.Model.{Model, storeOf}
 use Rattle.meaning.specs.Reports.{firstReport, parentStore}
 use Rattle.meaning.specs.Calls.{Call, Outcome, start, root, contextOf, setContext, totalOf, usedOf, freeOf, find, allocate, makeStore, clear, resize, makeStack, destroyStack, addThread, removeThread, checks, change, row}
-use Rattle.meaning.specs.Parts.{storesAlone}
+use Rattle.meaning.specs.Parts.{storesAlone, toldBy}
 use Rattle.meaning.specs.Reading.{fits32}
 use Rattle.threads.specs.declared.Threads.{Threads}
 use Rattle.threads.specs.Threads.{reading as threadsOf, written as threadsWritten, reading-written}
 use Rattle.stores.specs.declared.Stores.{Stores}
 use Rattle.stores.specs.Stores.{reading as storesOf, written as storesWritten}
 use Rattle.store_calls.specs.declared.room.Roomed.{Roomed}
-
-abbrev pub told : Outcome → Told
-told o = record { report = o .report; value = o .value }
-
--- what a call that changes nothing tells
-unfoldable pub replied : List Store → List Thread → Call → Told
-replied ss ts c = told (row (storesAlone ss ts) [] c)
 
 -- the stores after a call, and what it tells
 pub record Seen : Type 0 where
@@ -63,7 +56,7 @@ kept stores r = record { stores = stores; told = record { report = r; value = 0 
 
 -- an accepted call: its stores are written where its numbers fit, else it is refused by 16
 abbrev pub settled : Stores → Bool → Outcome → Seen
-settled stores fit o = if fit then record { stores = storesWritten (o .model .stores); told = told o } else kept stores 16
+settled stores fit o = if fit then record { stores = storesWritten (o .model .stores); told = toldBy o } else kept stores 16
 
 -- a call that takes or gives back room
 unfoldable pub roomed : Stores → Threads → Call → Seen

@@ -2,16 +2,16 @@
 ghost use mathlib.Core.Path.{_≡_};
 ghost use Rattle.meaning.specs.Calls.{allocate};
 ghost use Rattle.store_calls.specs.StoreCalls.{seen, roomed};
-use crate::lines::block_start;
+use crate::lines::block_value;
 use crate::lines::context_line;
-use crate::lines::free_of;
 use crate::room::Roomed;
-use crate::room::TOO_HIGH;
 use crate::room::accepted;
 use crate::room::refused;
 use names::Block;
 use names::Report;
+use names::TOO_HIGH;
 use names::ThreadId;
+use size_calls::free_of;
 use stores::Stores;
 use threads::Threads;
 
@@ -28,7 +28,7 @@ pub fn allocate(stores: Stores, threads: Threads, thread: ThreadId, n: u32) -> R
     if room < taken {
         return refused(stores, Report::OutOfMemory);
     }
-    let value = block_start(c);
+    let value = block_value(c);
     if TOO_HIGH <= value {
         return refused(stores, Report::UnsoundTable);
     }

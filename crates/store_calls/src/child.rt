@@ -3,16 +3,16 @@ ghost use mathlib.Core.Path.{_≡_};
 ghost use Rattle.meaning.specs.Calls.{makeStore};
 ghost use Rattle.store_calls.specs.StoreCalls.{seen, roomed};
 use crate::lines::context_line;
-use crate::lines::free_of;
 use crate::lines::free_start;
 use crate::room::Roomed;
-use crate::room::TOO_HIGH;
 use crate::room::accepted;
 use crate::room::refused;
 use names::Report;
 use names::Store;
 use names::StoreId;
+use names::TOO_HIGH;
 use names::ThreadId;
+use size_calls::free_of;
 use stores::Stores;
 use threads::Threads;
 

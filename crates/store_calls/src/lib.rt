@@ -1,4 +1,4 @@
-// Calls 1, 4, 5, 6, 8, 9, 10 and 11, on the lists that they look at. The checks stand in document 01's order, each after what it asks for. The table
+// Calls 8, 9, 10 and 11, on the lists that they look at. The checks stand in document 01's order, each after what it asks for. The table
 // asks soundness before; a number that does not fit 32 bits is met on an unsound table only, and such a call is refused as one.
 mod block;
 mod child;
@@ -6,14 +6,9 @@ mod clearing;
 mod lines;
 mod resizing;
 mod room;
-mod sizes;
 
 pub use block::allocate;
 pub use child::make_store;
 pub use clearing::clear;
 pub use resizing::resize;
 pub use room::Roomed;
-pub use sizes::free;
-pub use sizes::root;
-pub use sizes::total;
-pub use sizes::used;

@@ -1,8 +1,8 @@
-// What a line of the list of stores gives: its free part, where it ends, and the line of a thread's context. Ends are whole numbers of 64 bits.
+// What a line of the list of stores gives: where its free part begins, and the line of a thread's context. Sums are whole numbers of 64 bits.
 ghost use mathlib.Core.Path.{_≡_};
 ghost use Prim.Native.Nat.{_+_, _-_};
 ghost use Rattle.names.specs.Overhead.{allocationOverhead, storeTaken};
-ghost use Rattle.meaning.specs.Model.{end, whole, free, freePart};
+ghost use Rattle.meaning.specs.Model.{freePart};
 ghost use Rattle.meaning.specs.Reports.{contextStore};
 ghost use Rattle.meaning.specs.Parts.{storesAlone};
 ghost use Rattle.threads.specs.Threads.{reading as threadsOf};
@@ -13,18 +13,6 @@ use names::ThreadId;
 use stores::Stores;
 use threads::Threads;
 
-// The free bytes of a line.
-pub fn free_of(s: Store) -> u32
-    ensures { λ r. ⌜ r ≡ free (view s) ⌝ }
-{
-    let taken = (s.used as u64) + (Store::OVERHEAD as u64);
-    let total = s.total as u64;
-    if total < taken {
-        return 0;
-    }
-    (total - taken) as u32
-}
-
 // Where the free part of a line begins.
 pub fn free_start(s: Store) -> u64
     ensures { λ r. ⌜ r ≡ freePart (view s) .start ⌝ }
@@ -33,19 +21,11 @@ pub fn free_start(s: Store) -> u64
     (k.0 as u64) + (Store::OVERHEAD as u64) + (s.used as u64)
 }
 
-// The first address behind the overhead of a block at the low end of the free part.
-pub fn block_start(s: Store) -> u64
+// The value of call 8: the address behind the overhead of a block at the low end of the free part.
+pub fn block_value(s: Store) -> u64
     ensures { λ r. ⌜ r ≡ freePart (view s) .start + allocationOverhead ⌝ }
 {
     free_start(s) + (Block::OVERHEAD as u64)
-}
-
-// The address after the line's last.
-pub fn end_of(s: Store) -> u64
-    ensures { λ r. ⌜ r ≡ end (whole (view s)) ⌝ }
-{
-    let k = s.id;
-    (k.0 as u64) + (s.total as u64)
 }
 
 // The line of a listed thread's context.

@@ -8,18 +8,18 @@ ghost use Rattle.meaning.specs.Parts.{storesAlone};
 ghost use Rattle.threads.specs.Threads.{written as threadsWritten};
 ghost use Rattle.stores.specs.Stores.{reading as storesOf};
 ghost use Rattle.store_calls.specs.StoreCalls.{seen, roomed, resized};
-use crate::lines::end_of;
-use crate::lines::free_of;
 use crate::lines::free_start;
 use crate::lines::resized_used;
 use crate::room::Roomed;
-use crate::room::TOO_HIGH;
 use crate::room::accepted;
 use crate::room::refused;
 use names::Report;
 use names::Store;
 use names::StoreId;
+use names::TOO_HIGH;
+use size_calls::free_of;
 use stores::Stores;
+use stores::end_of;
 
 // The report of call 11, by its checks.
 fn resize_report(stores: Stores, store: StoreId, n: u32) -> Report
@@ -40,6 +40,7 @@ fn resize_report(stores: Stores, store: StoreId, n: u32) -> Report
         return Report::NotEmpty;
     }
     let total = Store::taken(n);
+    // document 01's order has this check, though n + 16 is never below 16
     if total < (Store::OVERHEAD as u64) {
         return Report::CannotShrink;
     }
@@ -71,8 +72,8 @@ fn resized(stores: Stores, store: StoreId, n: u32) -> Roomed
         return refused(stores, Report::UnsoundTable);
     }
     let parent_used = used as u32;
-    let grown = stores.with_total(store, total as u32);
-    accepted(grown.with_used(p.id, parent_used), store.0)
+    let sized = stores.with_total(store, total as u32);
+    accepted(sized.with_used(p.id, parent_used), store.0)
 }
 
 // Call 11.

@@ -4,9 +4,6 @@ use names::Reply;
 use names::Report;
 use stores::Stores;
 
-// The first number that does not fit 32 bits.
-pub const TOO_HIGH: u64 = 4294967296;
-
 // The stores after a call, and what it tells.
 pub struct Roomed {
     pub stores: Stores,

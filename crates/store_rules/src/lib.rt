@@ -9,7 +9,7 @@ ghost use Rattle.lists.specs.Keyed.{rising};
 ghost use Rattle.lines.specs.Shape.{live};
 ghost use Rattle.lines.specs.Halves.{Halved};
 ghost use Rattle.lines.specs.Keys.{number};
-ghost use Rattle.meaning.specs.Model.{end, whole, storeName};
+ghost use Rattle.meaning.specs.Model.{storeName};
 ghost use Rattle.meaning.specs.Rules.{rootSound, hangs, storesHang, fits};
 ghost use Rattle.meaning.specs.Reading.{runOf};
 ghost use Rattle.stores.specs.Stores.{view, storeLine, reading};
@@ -20,6 +20,7 @@ use names::Area;
 use names::Store;
 use names::StoreId;
 use stores::Stores;
+use stores::end_of;
 
 // Rule 2: the first of n lines is the root.
 fn root_sound(lines: [Store; 64], n: usize, area: Area) -> bool
@@ -151,14 +152,6 @@ fn lines_fit(lines: [Store; 64], n: usize) -> bool
         i += 1;
     }
     true
-}
-
-// The address after the line's last.
-fn end_of(s: Store) -> u64
-    ensures { λ r. ⌜ r ≡ end (whole (view s)) ⌝ }
-{
-    let k = s.id;
-    (k.0 as u64) + (s.total as u64)
 }
 
 // The total of c lies in the used part of p.

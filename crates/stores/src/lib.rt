@@ -12,7 +12,7 @@ ghost use Rattle.lines.specs.Shape.{live, pad, blank};
 ghost use Rattle.lines.specs.Search.{place};
 ghost use Rattle.lines.specs.Halves.{Halved};
 ghost use Rattle.lines.specs.Opened.{opened, openedAt};
-ghost use Rattle.meaning.specs.Model.{storeName, storeOf, rootOf};
+ghost use Rattle.meaning.specs.Model.{end, whole, storeName, storeOf, rootOf};
 ghost use Rattle.meaning.specs.Nesting.{parentIn, nested};
 ghost use Rattle.meaning.specs.Changes.{withUsed, withTotal, cleared};
 ghost use Rattle.stores.specs.Stores.{view, back, zeros, isZeros, storeLine, reading, written, clean, isStore, isAbove, isOutside, isOtherChild, lineWith};
@@ -22,6 +22,14 @@ use names::StoreId;
 pub struct Stores {
     pub count: u32,
     pub lines: [Store; 64],
+}
+
+// The address after the line's last, as a whole number of 64 bits.
+pub fn end_of(s: Store) -> u64
+    ensures { λ r. ⌜ r ≡ end (whole (view s)) ⌝ }
+{
+    let k = s.id;
+    (k.0 as u64) + (s.total as u64)
 }
 
 // How many lines are read.
@@ -123,7 +131,7 @@ fn with_line(lines: [Store; 64], n: usize, at: usize, x: Store) -> [Store; 64]
     out
 }
 
-// A line with another total, or another used, where it is that store's.
+// A line with x for its total, or for its used where `total` is false, if it is that store's.
 fn put(s: Store, id: StoreId, total: bool, x: u32) -> Store
     ensures { λ r. ⌜ r ≡ back (lineWith total (id .0) x (view s)) ⌝ }
 {
@@ -148,7 +156,7 @@ fn put(s: Store, id: StoreId, total: bool, x: u32) -> Store
     }
 }
 
-// The first n lines with another total, or another used, for that store.
+// The first n lines with x for that store's total, or for its used where `total` is false.
 fn lines_with(lines: [Store; 64], n: usize, id: StoreId, total: bool, x: u32) -> [Store; 64]
     requires { ⌜ n ≤ 64 ⌝ }
     ensures { λ r. ⌜ r ≡ pad storeLine (map (lineWith total (id .0) x) (live storeLine n lines)) ⌝ }
@@ -284,7 +292,7 @@ impl Stores {
         s.id
     }
 
-    // Another total, or another used, for that store.
+    // x for that store's total, or for its used where `total` is false.
     fn changed(self, id: StoreId, total: bool, x: u32) -> Stores
         ensures { λ r. ⌜ r ≡ written (map (lineWith total (id .0) x) (reading self)) ⌝ }
     {

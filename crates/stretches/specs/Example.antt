@@ -1,28 +1,29 @@
--- A stretch: the assumptions of demand 3 can be met, by computation. S is the store 4112. Work is done in S, in the store 4136 that is made in S, and beside S;
+-- A stretch on the model: the assumptions of `Stretch` can be met, by computation. S is the store 4112. Work is done in S, in the store 4136 that is made in S, and beside S;
 -- threads are placed in both; there are stacks, questions and refused calls; then S is cleared. Assumes nothing.
 use mathlib.Core.Path.{_≡_, refl}
 use mathlib.Core.List.{List, [], _∷_, _++_, map}
-use Rattle.meaning.specs.Model.{Run, Model, _holds_, _inside_, _apartFrom_}
+use Rattle.meaning.specs.Model.{Model, _holds_, _inside_, _apartFrom_}
 use Rattle.meaning.specs.Nesting.{nested, depth, storeHolding}
 use Rattle.meaning.specs.Rules.{areasSound, rootSound, storesHang, storesFit, threadsPlaced, stacksFit, runSound, sound}
 use Rattle.meaning.specs.Reports.{firstReport}
 use Rattle.meaning.specs.Calls.{Call, setContext, usedOf, find, allocate, makeStore, clear, resize, makeStack, destroyStack, addThread, removeThread, checks, change, allChecks, step}
 use Rattle.meaning.specs.CallList.{Line, _answers_, _refusedWith_, _finds_below_, after, told, bytesAfter}
+use Rattle.meaning.specs.Parts.{noRun}
 use Rattle.meaning.specs.Cases.{lent, startAt}
 use Rattle.meaning.specs.Laws.Agree.{sound-agrees}
 use Rattle.stretches.specs.Stretch.{workInside, moved, stayed, startsOrResizes, lasts, Stretch}
 
--- A table of zeros with lines for five stores, so that work inside S fills it: the store that is then refused beside S would be made without that work.
+-- A model of zeros with lines for five stores, which no table of this version has: so a short list of calls fills it by work inside S, and the store that is then
+-- refused beside S would be made without that work.
 unfoldable pub five : Model
 five =
-    let nothing : Run = record { start = 0; length = 0 } in
     record {
-      storeArea = nothing;
-      stackArea = nothing;
+      storeArea = noRun;
+      stackArea = noRun;
       stores = [];
       threads = [];
       stacks = [];
-      freeRun = nothing;
+      freeRun = noRun;
       limits = record { stores = 5; threads = 32; stacks = 32 };
     }
 

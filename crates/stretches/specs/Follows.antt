@@ -11,7 +11,8 @@ use Rattle.meaning.specs.Facts.{Sound}
 use Rattle.meaning.specs.Rules.{sound}
 use Rattle.meaning.specs.Calls.{Call, Outcome, code, checks, change, allChecks, step}
 use Rattle.meaning.specs.Laws.Agree.{sound-agrees}
-use Rattle.meaning.specs.Laws.Step.{NoneHolds, accepted-exact}
+use Rattle.meaning.specs.Reports.{NoneHolds}
+use Rattle.meaning.specs.Laws.Step.{accepted-exact}
 use Rattle.stretches.specs.Stretch.{moved, SameOutside}
 use Rattle.stretches.specs.Without.{without}
 

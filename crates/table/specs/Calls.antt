@@ -1,4 +1,5 @@
--- A call on a table, as document 01 has it: what the manager promises of each of its sixteen calls. Assumes nothing.
+-- A call on a table, as document 01 has it: what the manager promises of each of its sixteen calls and of the run question. `Called` is the meaning's `Outcome`
+-- with a table for the model; `Seen` and `SeenFound` are what an `Answer` and a `Found` of the code carry of it. Assumes nothing.
 use mathlib.Core.Bool.{not, _&&_}
 use Prim.Native.Nat.{ℕ}
 use lib.Dec.{eqb}

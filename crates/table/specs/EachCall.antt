@@ -5,6 +5,7 @@ use mathlib.Core.Path.{_≡_, refl, sym, _∙_, ap}
 use Prim.Native.Nat.{ℕ}
 use Rattle.meaning.specs.Facts.{Sound}
 use Rattle.meaning.specs.Calls.{root, contextOf, setContext, totalOf, usedOf, freeOf, makeStore, clear, resize, makeStack, destroyStack, addThread, removeThread, checks, change, row}
+use Rattle.meaning.specs.Parts.{replied}
 use Rattle.meaning.specs.Laws.Agree.{sound-agrees}
 use Rattle.stores.specs.Stores.{reading as storesOf}
 use Rattle.threads.specs.Threads.{reading as threadsOf, written as threadsWritten}
@@ -12,8 +13,7 @@ use Rattle.thread_calls.specs.ThreadCalls as threadCalls
 use Rattle.store_calls.specs.StoreCalls as storeCalls
 use Rattle.stack_calls.specs.StackCalls as stackCalls
 use Rattle.table.specs.declared.Table.{Table}
-use Rattle.table.specs.Table.{reading, soundTable}
-use Rattle.table.specs.Laws.{Sized}
+use Rattle.table.specs.Table.{reading, soundTable, Sized}
 use Rattle.table.specs.Calls.{called, answer}
 use Rattle.table.specs.Ways.{replyOf, withThreadsOf, withStoresOf, withStacksOf, model-sound, called-sound, question-way, threads-way, stores-way, stacks-way}
 use Rattle.table.specs.Fits.{make-store-fits, resize-fits, make-stack-fits, destroy-stack-fits}
@@ -24,44 +24,44 @@ module _ (t : Table) (n : Sized t) (h : soundTable t ≡ true) where
 
   -- ---- calls 1, 2, 4, 5, 6: questions
 
-  pub root-called : replyOf t (storeCalls.replied (storesOf (t .stores)) [] root) ≡ answer (called t [] root)
-  unfolding storeCalls.replied row checks change reading
+  pub root-called : replyOf t (replied (storesOf (t .stores)) [] root) ≡ answer (called t [] root)
+  unfolding replied row checks change reading
   root-called = question-way t n h _ _ _ _ ∙ ap answer (sym (called-sound t n h [] root))
 
-  pub context-called : (x : ℕ) → replyOf t (threadCalls.replied [] (threadsOf (t .threads)) (contextOf x)) ≡ answer (called t [] (contextOf x))
-  unfolding threadCalls.replied row checks change reading
+  pub context-called : (x : ℕ) → replyOf t (replied [] (threadsOf (t .threads)) (contextOf x)) ≡ answer (called t [] (contextOf x))
+  unfolding replied row checks change reading
   context-called x = question-way t n h _ _ _ _ ∙ ap answer (sym (called-sound t n h [] (contextOf x)))
 
-  pub total-called : (s : ℕ) → replyOf t (storeCalls.replied (storesOf (t .stores)) [] (totalOf s)) ≡ answer (called t [] (totalOf s))
-  unfolding storeCalls.replied row checks change reading
+  pub total-called : (s : ℕ) → replyOf t (replied (storesOf (t .stores)) [] (totalOf s)) ≡ answer (called t [] (totalOf s))
+  unfolding replied row checks change reading
   total-called s = question-way t n h _ _ _ _ ∙ ap answer (sym (called-sound t n h [] (totalOf s)))
 
-  pub used-called : (s : ℕ) → replyOf t (storeCalls.replied (storesOf (t .stores)) [] (usedOf s)) ≡ answer (called t [] (usedOf s))
-  unfolding storeCalls.replied row checks change reading
+  pub used-called : (s : ℕ) → replyOf t (replied (storesOf (t .stores)) [] (usedOf s)) ≡ answer (called t [] (usedOf s))
+  unfolding replied row checks change reading
   used-called s = question-way t n h _ _ _ _ ∙ ap answer (sym (called-sound t n h [] (usedOf s)))
 
-  pub free-called : (s : ℕ) → replyOf t (storeCalls.replied (storesOf (t .stores)) [] (freeOf s)) ≡ answer (called t [] (freeOf s))
-  unfolding storeCalls.replied row checks change reading
+  pub free-called : (s : ℕ) → replyOf t (replied (storesOf (t .stores)) [] (freeOf s)) ≡ answer (called t [] (freeOf s))
+  unfolding replied row checks change reading
   free-called s = question-way t n h _ _ _ _ ∙ ap answer (sym (called-sound t n h [] (freeOf s)))
 
   -- ---- calls 3, 14, 15: other threads
 
   pub set-context-called : (x s : ℕ) →
-      let p = threadCalls.placed (storesOf (t .stores)) (t .threads) (setContext x s) in
+      let p = threadCalls.threadsAfter (storesOf (t .stores)) (t .threads) (setContext x s) in
       withThreadsOf t (p .threads) (p .told) ≡ answer (called t [] (setContext x s))
-  unfolding threadCalls.placed row checks change reading
+  unfolding threadCalls.threadsAfter row checks change reading
   set-context-called x s = threads-way t n h _ _ _ _ ∙ ap answer (sym (called-sound t n h [] (setContext x s)))
 
   pub add-thread-called : (x s : ℕ) →
-      let p = threadCalls.placed (storesOf (t .stores)) (t .threads) (addThread x s) in
+      let p = threadCalls.threadsAfter (storesOf (t .stores)) (t .threads) (addThread x s) in
       withThreadsOf t (p .threads) (p .told) ≡ answer (called t [] (addThread x s))
-  unfolding threadCalls.placed row checks change reading
+  unfolding threadCalls.threadsAfter row checks change reading
   add-thread-called x s = threads-way t n h _ _ _ _ ∙ ap answer (sym (called-sound t n h [] (addThread x s)))
 
   pub remove-thread-called : (x : ℕ) →
-      let p = threadCalls.placed [] (t .threads) (removeThread x) in
+      let p = threadCalls.threadsAfter [] (t .threads) (removeThread x) in
       withThreadsOf t (p .threads) (p .told) ≡ answer (called t [] (removeThread x))
-  unfolding threadCalls.placed row checks change reading
+  unfolding threadCalls.threadsAfter row checks change reading
   remove-thread-called x = threads-way t n h _ _ _ _ ∙ ap answer (sym (called-sound t n h [] (removeThread x)))
 
   -- ---- calls 9, 10, 11: other stores

@@ -8,8 +8,7 @@ use Rattle.stores.specs.Stores.{reading as storesOf}
 use Rattle.finding.specs.Descent.{Finding, descent}
 use Rattle.finding.specs.Right.{descent-right}
 use Rattle.table.specs.declared.Table.{Table}
-use Rattle.table.specs.Table.{reading, soundTable}
-use Rattle.table.specs.Laws.{Sized}
+use Rattle.table.specs.Table.{reading, soundTable, Sized}
 use Rattle.table.specs.Calls.{SeenFound, called, foundAnswer}
 use Rattle.table.specs.Ways.{called-sound, same-table}
 use Rattle.table.specs.EachCall.{is-sound}

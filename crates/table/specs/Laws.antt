@@ -6,7 +6,6 @@ use mathlib.Core.Path.{_≡_, refl, sym, _∙_}
 use Prim.Native.Nat.{ℕ}
 use lib.Dec.{eqb}
 use borrow.Author.Tests.{eqb-true, eq-eqb}
-use lib.ListN.{length}
 use Rattle.lists.specs.Choice.{if_then_else_}
 use Rattle.lists.specs.Tests.{same-test, and-iff, reflect}
 use Rattle.meaning.specs.Laws.Step.{none-given, given-none}
@@ -20,7 +19,7 @@ use Rattle.store_rules.specs.Broken.{brokenStores}
 use Rattle.threads.specs.Threads
 use Rattle.stacks.specs.Stacks
 use Rattle.table.specs.declared.Table.{Table}
-use Rattle.table.specs.Table.{reading, written, rule8, brokenRule, soundTable}
+use Rattle.table.specs.Table.{reading, written, rule8, brokenRule, soundTable, Sized}
 
 -- What is written reads as what it was.
 pub reading-written : (m : Model) → m .limits ≡ tableLimits → reading (written m) ≡ m
@@ -35,12 +34,6 @@ reading-written m e =
       freeRun = m .freeRun;
       limits = sym e i;
     }
-
--- the arrays of a table are as long as they are declared
-pub record Sized (t : Table) : Type 0 where
-  pub stores : length (t .stores .lines) ≡ 64
-  pub threads : length (t .threads .lines) ≡ 32
-  pub stacks : length (t .stacks .lines) ≡ 32
 
 -- A table that obeys rule 8, so every sound one, is what it reads as, written.
 pub written-reading : (t : Table) → Sized t → rule8 t ≡ true → written (reading t) ≡ t

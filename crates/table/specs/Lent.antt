@@ -21,19 +21,18 @@ use Rattle.meaning.specs.Calls.{allocate, accepted, decide, checks, change, row
 use Rattle.stores.specs.declared.Stores.{Stores}
 use Rattle.store_calls.specs.StoreCalls as storeCalls
 use Rattle.table.specs.declared.Table.{Table}
-use Rattle.table.specs.Table.{reading, soundTable}
-use Rattle.table.specs.Laws.{Sized}
+use Rattle.table.specs.Table.{reading, soundTable, Sized}
 use Rattle.runs.specs.Runs.{part}
 use Rattle.table.specs.Calls.{called, answer, runNumber, tableRun}
 use Rattle.table.specs.Ways.{withStoresOf, model-sound, called-sound, stores-way}
 use Rattle.table.specs.EachCall.{is-sound}
 use Rattle.table.specs.Fits.{allocate-fits}
 
--- the area with the block of an allocation that the lists were asked for
+-- the lent area after call 8: the block's bytes 0 where the call on the lists was accepted, else as it was
 abbrev pub blockZeroed : Table → storeCalls.Seen → ℕ → Bytes → Bytes
 blockZeroed t r k bs = if eqb (r .told .report) 0 then zeroed (r .told .value - allocationOverhead - t .areas .stores .start) (blockTaken k) bs else bs
 
--- what the room's report and value tell of the block is what the row changes
+-- zeroing by that call's report and value is the row's change of the bytes
 bytes-way : (ks : List Check) (stores : Stores) (m n a b : Model) (block start k : ℕ) (bs : Bytes) (fit : ℕ → Bool) → (firstReport ks ≡ 0 → fit (block + allocationOverhead) ≡ true) →
     let o = decide ks m [] (accepted (block + allocationOverhead) n []) in
     let r = if eqb (o .report) 0 then storeCalls.settled stores (fit (o .value)) o else storeCalls.kept stores (o .report) in

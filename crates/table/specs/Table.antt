@@ -2,7 +2,9 @@
 -- "The table". Assumes nothing.
 use mathlib.Core.Bool.{Bool, not, _&&_}
 use mathlib.Core.List.{[], _∷_}
+use mathlib.Core.Path.{_≡_}
 use Prim.Native.Nat.{ℕ}
+use lib.ListN.{length}
 use Rattle.meaning.specs.Model.{Model, tableLimits}
 use Rattle.meaning.specs.Reading.{runOf, areaOf}
 use Rattle.meaning.specs.Rules.{rule1, rule2, rule3, rule4, rule5, rule6, rule7, sound}
@@ -13,6 +15,7 @@ use Rattle.stacks.specs.Stacks.{reading as stacksOf, written as stacksWritten, 
 use Rattle.stores.specs.declared.Stores.{Stores}
 use Rattle.threads.specs.declared.Threads.{Threads}
 use Rattle.stacks.specs.declared.Stacks.{Stacks}
+use Rattle.names.specs.declared.lines.Area.{Area}
 use Rattle.table.specs.declared.Table.{Table}
 
 -- what a table means
@@ -39,6 +42,21 @@ written m =
       stacks = stacksWritten (m .stacks);
     }
 
+-- an area without addresses
+abbrev pub noArea : Area
+noArea = record { start = 0; length = 0 }
+
+-- "Before an accepted call 0 the table is all zeros"
+unfoldable pub zeroTable : Table
+zeroTable =
+    record {
+      areas = record { stores = noArea; stacks = noArea };
+      free = noArea;
+      stores = storesWritten [];
+      threads = threadsWritten [];
+      stacks = stacksWritten [];
+    }
+
 -- 8. The counts are at most 64, 32 and 32, and lines past them hold zeros.
 abbrev pub allClean : Stores → Threads → Stacks → Bool
 allClean ss ts ks = storesClean ss && threadsClean ts && stacksClean ks
@@ -57,3 +75,9 @@ brokenRule t =
 -- "A table is sound when all of these hold"
 unfoldable pub soundTable : Table → Bool
 soundTable t = sound (reading t) && rule8 t
+
+-- The logic sees an array as a list of any length. Every table of the code is sized: its arrays are as long as they are declared.
+pub record Sized (t : Table) : Type 0 where
+  pub stores : length (t .stores .lines) ≡ 64
+  pub threads : length (t .threads .lines) ≡ 32
+  pub stacks : length (t .stacks .lines) ≡ 32

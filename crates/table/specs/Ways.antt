@@ -27,8 +27,7 @@ use Rattle.thread_calls.specs.ThreadCalls as threadCalls
 use Rattle.store_calls.specs.StoreCalls as storeCalls
 use Rattle.stack_calls.specs.StackCalls as stackCalls
 use Rattle.table.specs.declared.Table.{Table}
-use Rattle.table.specs.Table.{reading, written, rule8, soundTable}
-use Rattle.table.specs.Laws.{Sized}
+use Rattle.table.specs.Table.{reading, written, rule8, soundTable, Sized}
 use Rattle.table.specs.Calls.{Seen, unsound, settled, called, answer}
 
 -- ---- what a call on lists gives, put back into the table

@@ -1,6 +1,6 @@
 // The table that the board holds, and whether it is sound.
 ghost use mathlib.Core.Path.{_≡_};
-ghost use Rattle.table.specs.Table.{allClean, brokenRule, soundTable};
+ghost use Rattle.table.specs.Table.{allClean, zeroTable, brokenRule, soundTable};
 
 mod answer;
 mod find;
@@ -17,11 +17,13 @@ use stacks::Stacks;
 use stores::Stores;
 use threads::Threads;
 
+// The two areas.
 pub struct Areas {
     pub stores: Area,
     pub stacks: Area,
 }
 
+// The areas, the free run of the stack area, and the three lists.
 pub struct Table {
     pub areas: Areas,
     pub free: Area,
@@ -31,6 +33,24 @@ pub struct Table {
 }
 
 impl Table {
+    // The table of zeros: what there is before a start.
+    pub fn zeros() -> Self
+        ensures { λ r. ⌜ r ≡ zeroTable ⌝ }
+    {
+        let none = Area::new(0, 0);
+        let areas = Areas {
+            stores: none,
+            stacks: none,
+        };
+        Self {
+            areas,
+            free: none,
+            stores: Stores::new(),
+            threads: Threads::new(),
+            stacks: Stacks::new(),
+        }
+    }
+
     // Every call but a start asks this first.
     pub fn is_sound(self) -> bool
         ensures { λ r. ⌜ r ≡ soundTable self ⌝ }
@@ -56,7 +76,7 @@ impl Table {
         if k != 0 {
             return k;
         }
-        if !contexts::placed(threads, stores) {
+        if !contexts::threads_placed(threads, stores) {
             return 5;
         }
         if !stack_rules::fit(stacks, stack_area, free) {

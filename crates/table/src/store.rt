@@ -20,7 +20,7 @@ impl Table {
         if !self.is_sound() {
             return refused(self, Report::UnsoundTable);
         }
-        told(self, store_calls::root(self.stores))
+        told(self, size_calls::root(self.stores))
     }
 
     // Call 4.
@@ -30,7 +30,7 @@ impl Table {
         if !self.is_sound() {
             return refused(self, Report::UnsoundTable);
         }
-        told(self, store_calls::total(self.stores, store))
+        told(self, size_calls::total(self.stores, store))
     }
 
     // Call 5.
@@ -40,7 +40,7 @@ impl Table {
         if !self.is_sound() {
             return refused(self, Report::UnsoundTable);
         }
-        told(self, store_calls::used(self.stores, store))
+        told(self, size_calls::used(self.stores, store))
     }
 
     // Call 6.
@@ -50,7 +50,7 @@ impl Table {
         if !self.is_sound() {
             return refused(self, Report::UnsoundTable);
         }
-        told(self, store_calls::free(self.stores, store))
+        told(self, size_calls::free(self.stores, store))
     }
 
     // Call 9.

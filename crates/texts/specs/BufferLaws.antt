@@ -52,6 +52,10 @@ module _ (at : ℕ) (s buffer : List ℕ) where
       sym (drop-append-le (length s) (take k d) (drop k d) few) ∙ ap (drop (length s)) (take-append-drop k d) ∙ drop-drop (length s) at buffer in
       rw (e, take-length s, append-assoc s (drop (length s) (take k d)) (drop k d), tail) (sym (append-assoc (take at buffer) s (drop end buffer)))
 
+-- the first n bytes, where there are so many, are n
+pub part-length : (n : ℕ) (bytes : List ℕ) → n ≤ length bytes → n ≡ length (take n bytes)
+part-length n bytes h = simp length-take (omega arith)
+
 -- ---- what a caller is told
 
 -- after bytes put one after the other, as after all at once

@@ -1,4 +1,4 @@
-pub mod Counts
+pub mod Record
 pub mod Decimal
 pub mod DecimalLaws
 pub mod Buffer

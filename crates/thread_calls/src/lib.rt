@@ -2,10 +2,11 @@
 ghost use mathlib.Core.List.{[]};
 ghost use mathlib.Core.Path.{_≡_};
 ghost use Rattle.meaning.specs.Calls.{contextOf, setContext, addThread, removeThread};
+ghost use Rattle.meaning.specs.Parts.{replied};
 ghost use Rattle.names.specs.Numbers.{numberOf, toldOf};
 ghost use Rattle.stores.specs.Stores.{reading as storesOf};
 ghost use Rattle.threads.specs.Threads.{reading as threadsOf};
-ghost use Rattle.thread_calls.specs.ThreadCalls.{seen, replied, placed, crowded, settled};
+ghost use Rattle.thread_calls.specs.ThreadCalls.{seen, threadsAfter, crowded, placedIfRoom};
 use names::Reply;
 use names::Report;
 use names::StoreId;
@@ -33,7 +34,7 @@ pub fn context(threads: Threads, thread: ThreadId) -> Reply
 
 // Call 3.
 pub fn set_context(threads: Threads, stores: Stores, thread: ThreadId, store: StoreId) -> Placed
-    ensures { λ r. ⌜ seen r ≡ placed (storesOf stores) threads (setContext (thread .0) (store .0)) ⌝ }
+    ensures { λ r. ⌜ seen r ≡ threadsAfter (storesOf stores) threads (setContext (thread .0) (store .0)) ⌝ }
 {
     let has_thread = threads.has(thread);
     let has_store = stores.has(store);
@@ -58,7 +59,7 @@ fn no_place(threads: Threads, thread: ThreadId) -> bool
 
 // A listed thread gets the new context, another is put in; the same list where it has no place.
 fn with_thread_in(threads: Threads, thread: ThreadId, context: StoreId) -> Threads
-    ensures { λ r. ⌜ r ≡ settled threads (thread .0) (context .0) ⌝ }
+    ensures { λ r. ⌜ r ≡ placedIfRoom threads (thread .0) (context .0) ⌝ }
 {
     if threads.has(thread) {
         return threads.with_context(thread, context);
@@ -68,7 +69,7 @@ fn with_thread_in(threads: Threads, thread: ThreadId, context: StoreId) -> Threa
 
 // Call 14.
 pub fn add_thread(threads: Threads, stores: Stores, thread: ThreadId, context: StoreId) -> Placed
-    ensures { λ r. ⌜ seen r ≡ placed (storesOf stores) threads (addThread (thread .0) (context .0)) ⌝ }
+    ensures { λ r. ⌜ seen r ≡ threadsAfter (storesOf stores) threads (addThread (thread .0) (context .0)) ⌝ }
 {
     let has_context = stores.has(context);
     let full = no_place(threads, thread);
@@ -83,7 +84,7 @@ pub fn add_thread(threads: Threads, stores: Stores, thread: ThreadId, context: S
 
 // Call 15.
 pub fn remove_thread(threads: Threads, thread: ThreadId) -> Placed
-    ensures { λ r. ⌜ seen r ≡ placed [] threads (removeThread (thread .0)) ⌝ }
+    ensures { λ r. ⌜ seen r ≡ threadsAfter [] threads (removeThread (thread .0)) ⌝ }
 {
     accepted(threads.without(thread))
 }

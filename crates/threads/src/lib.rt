@@ -23,7 +23,7 @@ pub struct Threads {
 }
 
 // How many lines are read.
-fn used(count: u32) -> usize
+fn in_use(count: u32) -> usize
     ensures { λ r. ⌜ r ≡ min count 32 ⌝ }
 {
     if count < 32 { count as usize } else { 32 }
@@ -209,7 +209,7 @@ impl Threads {
     pub fn len(self) -> usize
         ensures { λ r. ⌜ r ≡ length (reading self) ⌝ }
     {
-        used(self.count)
+        in_use(self.count)
     }
 
     // The thread at a place of the list, zeros past its end.
@@ -217,7 +217,7 @@ impl Threads {
         ensures { λ r. ⌜ r ≡ back (getD (reading self) i (view zeros)) ⌝ }
     {
         let lines = self.lines;
-        let n = used(self.count);
+        let n = in_use(self.count);
         if i < n {
             return lines[i];
         }
@@ -228,7 +228,7 @@ impl Threads {
         ensures { λ r. ⌜ r ≡ has threadName (reading self) (id .0) ⌝ }
     {
         let lines = self.lines;
-        let n = used(self.count);
+        let n = in_use(self.count);
         place_of(lines, n, id) < n
     }
 
@@ -237,7 +237,7 @@ impl Threads {
         ensures { λ r. ⌜ r .0 ≡ contextIn (reading self) (id .0) ⌝ }
     {
         let lines = self.lines;
-        let n = used(self.count);
+        let n = in_use(self.count);
         let i = place_of(lines, n, id);
         if i < n {
             let t = lines[i];
@@ -251,7 +251,7 @@ impl Threads {
         ensures { λ r. ⌜ r ≡ written (withContext (id .0) (context .0) (reading self)) ⌝ }
     {
         let lines = self.lines;
-        let n = used(self.count);
+        let n = in_use(self.count);
         Threads {
             count: n as u32,
             lines: with_moved(lines, n, id, context),
@@ -263,7 +263,7 @@ impl Threads {
         ensures { λ r. ⌜ r ≡ (if ltb (length (reading self)) 32 then written (insert threadName (view thread) (reading self)) else self) ⌝ }
     {
         let lines = self.lines;
-        let n = used(self.count);
+        let n = in_use(self.count);
         if n == 32 {
             return self;
         }
@@ -279,7 +279,7 @@ impl Threads {
         ensures { λ r. ⌜ r ≡ written (remove threadName (id .0) (reading self)) ⌝ }
     {
         let lines = self.lines;
-        let n = used(self.count);
+        let n = in_use(self.count);
         without_line(lines, n, id)
     }
 
@@ -288,7 +288,7 @@ impl Threads {
         ensures { λ r. ⌜ r ≡ rising threadName (reading self) ⌝ }
     {
         let lines = self.lines;
-        let n = used(self.count);
+        let n = in_use(self.count);
         lines_rise(lines, n)
     }
 

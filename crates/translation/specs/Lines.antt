@@ -7,7 +7,7 @@ use native.Mathlib.Omega.{arith}
 use lib.ListN.{length, take, drop, getD, length-append, take-append-drop}
 use borrow.Author.Tests.{le-leb}
 use Rattle.lists.specs.Lists.{all}
-use Rattle.texts.specs.Counts.{counts}
+use Rattle.texts.specs.Record.{counts}
 use Rattle.texts.specs.Buffer.{overwritten}
 use Rattle.texts.specs.BufferLaws.{overwritten-length, overwritten-more}
 use Rattle.notation.specs.Notation.{isBlank}

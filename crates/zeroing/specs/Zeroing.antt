@@ -1,4 +1,4 @@
--- Zeroing byte by byte, from an offset on. Assumes nothing.
+-- The bytes of call 8, zeroed one by one from an offset on: one law for each way out of the loop. Assumes nothing.
 use mathlib.Core.List.{[], _∷_}
 use mathlib.Core.Path.{_≡_, refl, sym, _∙_, ap}
 use Prim.Native.Nat.{ℕ, zero, suc, _+_, _-_, _<_, _≤_}

@@ -9,7 +9,7 @@ ghost use Rattle.names.specs.Overhead.{allocationOverhead, blockTaken};
 use names::Block;
 use names::Reply;
 
-// The bytes from an offset on and before another become 0, those that are there.
+// The bytes from one offset up to another become 0, as far as the area goes.
 fn zero(area: &mut [u8], from: usize, to: usize)
     ensures { λ _. ⌜ now (area .exit) ≡ zeroed from (to - from) (now (area .entry)) ⌝ }
 {

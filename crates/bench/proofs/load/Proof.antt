@@ -5,7 +5,7 @@ use mathlib.Core.List.{List}
 use Prim.Native.Nat.{ℕ, _≤_}
 use lib.ListN.{length}
 use Rattle.io.specs.Counts.{Counts}
-use Rattle.bench_run.specs.Steps.{part-length}
+use Rattle.texts.specs.BufferLaws.{part-length}
 use Rattle.bench.proofs.load.Statement.{statement}
 use Rattle.bench.proofs.load.Tie as tie
 use Rattle.bench.proofs.is_last.Reads as is-last-reads

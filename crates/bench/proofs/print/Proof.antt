@@ -1,6 +1,6 @@
 -- `bench::print` meets its contract. Assumes nothing.
 use borrow.Author.Needs.{needs}
-use Rattle.bench_run.specs.Steps.{part-length}
+use Rattle.texts.specs.BufferLaws.{part-length}
 use Rattle.bench.proofs.print.Statement.{statement}
 use Rattle.bench.proofs.print.Tie as tie
 use Rattle.io.proofs.write_all.Reads as write-all-reads

@@ -1,5 +1,5 @@
 -- `bench_lists::play_first` is safe. Assumes nothing.
-use Rattle.bench_run.specs.Steps.{part-length}
+use Rattle.texts.specs.BufferLaws.{part-length}
 use borrow.Author.Needs.{needs}
 use Rattle.bench_lists.proofs.play_first.Statement.{statement}
 use Rattle.bench_lists.proofs.play_first.Tie as tie

@@ -1,5 +1,5 @@
 -- `bench_lists::print` is safe: no more is printed than there is. Assumes nothing.
-use Rattle.bench_run.specs.Steps.{part-length}
+use Rattle.texts.specs.BufferLaws.{part-length}
 use borrow.Author.Needs.{needs}
 use Rattle.bench_lists.proofs.print.Statement.{statement}
 use Rattle.bench_lists.proofs.print.Tie as tie

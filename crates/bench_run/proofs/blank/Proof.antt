@@ -1,6 +1,6 @@
 -- `bench_run::blank` meets its contract. Assumes nothing.
 use mathlib.Core.Path.{refl}
-use Rattle.bench_run.specs.Bench.{zeroStores}
+use Rattle.bench_calls.specs.Bench.{zeroStores}
 use Rattle.bench_run.proofs.blank.Statement.{statement}
 use Rattle.bench_run.proofs.blank.Tie as tie
 

@@ -10,7 +10,7 @@ use Rattle.lists.specs.Lists.{_∈_, keep}
 use Rattle.lists.specs.Tests.{tested, reflect}
 use Rattle.lists.specs.ListLaws.{keep-member, member-keep}
 use Rattle.lists.specs.KeyedLaws.{member-has, at-member, at-key}
-use Rattle.meaning.specs.Model.{Store, Model, Bytes, _holds_, whole, storeName, listed, noSuchStore, storeOf, rootOf}
+use Rattle.meaning.specs.Model.{Store, Model, Bytes, _holds_, whole, storeName, noSuchStore, storeOf, rootOf}
 use Rattle.meaning.specs.Nesting.{Below, depth, deeper, deepest, storeHolding}
 use Rattle.meaning.specs.Facts.{_Holds_, Sound}
 use Rattle.meaning.specs.Calls.{find, checks, change, allChecks, step}

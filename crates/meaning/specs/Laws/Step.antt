@@ -14,17 +14,8 @@ use Rattle.meaning.specs.Model.{Model, Bytes}
 use Rattle.meaning.specs.Rules.{sound}
 use Rattle.meaning.specs.Facts.{Sound}
 use Rattle.meaning.specs.Laws.Agree.{sound-agrees}
-use Rattle.meaning.specs.Reports.{Check, firstReport}
+use Rattle.meaning.specs.Reports.{Check, firstReport, First, here, later, NoneHolds}
 use Rattle.meaning.specs.Calls.{Call, start, root, contextOf, setContext, totalOf, usedOf, freeOf, find, allocate, makeStore, clear, resize, makeStack, destroyStack, addThread, removeThread, code, refused, checks, change, allChecks, row, step}
-
--- r is the report of the first of the checks whose condition holds: its own holds and no earlier one does
-pub data First (r : ℕ) : List Check → Type 0 where
-  here : {k : Check} {ks : List Check} → k .condition ≡ true → k .report ≡ r → First r (k ∷ ks)
-  later : {k : Check} {ks : List Check} → k .condition ≡ false → First r ks → First r (k ∷ ks)
-
--- no condition of the checks holds
-abbrev pub NoneHolds : List Check → Type 0
-NoneHolds ks = all (λ k. not (k .condition)) ks ≡ true
 
 -- no check has the report 0
 abbrev pub Numbered : List Check → Type 0
@@ -80,12 +71,12 @@ step-refused m bs c h =
     let n = ne-eqb (firstReport (allChecks m bs c)) 0 (λ e. h (step-report m bs c ∙ e)) in
     rw n
 
-first-given : (r : ℕ) (ks : List Check) → First r ks → firstReport ks ≡ r
+pub first-given : (r : ℕ) (ks : List Check) → First r ks → firstReport ks ≡ r
 unfolding firstReport
 first-given r ks (here e q) = rw e q
 first-given r ks (later {ks = rest} e f) = rw e (first-given r rest f)
 
-given-first : (r : ℕ) (ks : List Check) → (r ≡ 0 → ⊥) → firstReport ks ≡ r → First r ks
+pub given-first : (r : ℕ) (ks : List Check) → (r ≡ 0 → ⊥) → firstReport ks ≡ r → First r ks
 unfolding firstReport
 given-first r [] n h = absurd (n (sym h))
 given-first r (k ∷ ks) n h = elim (tested (k .condition)) [

@@ -12,7 +12,7 @@ use Rattle.meaning.specs.Model.{_inside_}
 use Rattle.meaning.specs.Rules.{runSound}
 use Rattle.meaning.specs.Reading.{runOf}
 use Rattle.stacks.specs.Stacks.{stackLine, reading}
-use Rattle.stack_rules.specs.Pass.{totalOf}
+use Rattle.stack_rules.specs.Pass.{stackBytes}
 use Rattle.stack_rules.proofs.run_sound.Statement.{statement}
 use Rattle.stack_rules.proofs.run_sound.Tie as tie
 use Rattle.stack_rules.proofs.bytes_with.Reads as bytes-with-reads
@@ -30,9 +30,9 @@ lies : (c : tie.Else1) → (runOf (c .before .before .before .before .args .free
 lies c = sym (c .before .inside .ensures) ∙ not-false _ (c .if1 .left)
 
 -- the bytes of the listed stacks and of the run
-bytes : (c : tie.After-bytes-with) → c .bytes-with .result ≡ sum totalOf (reading (c .before .before .before .before .before .args .stacks)) + c .before .before .before .before .before .args .free .length
+bytes : (c : tie.After-bytes-with) → c .bytes-with .result ≡ sum stackBytes (reading (c .before .before .before .before .before .args .stacks)) + c .before .before .before .before .before .args .free .length
 unfolding reading
-bytes c = c .bytes-with .ensures ∙ ap (λ l. sum totalOf l + c .before .before .before .before .before .args .free .length) (lines-read stackLine _ _ _ (long (c .before .before .before .before .before)) (few (c .before .before .before)))
+bytes c = c .bytes-with .ensures ∙ ap (λ l. sum stackBytes l + c .before .before .before .before .before .args .free .length) (lines-read stackLine _ _ _ (long (c .before .before .before .before .before)) (few (c .before .before .before)))
 
 len-requires : tie.Need-len-requires
 len-requires c κs = search needs

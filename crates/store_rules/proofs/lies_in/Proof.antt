@@ -4,7 +4,7 @@ use borrow.Author.Tests.{le-leb, lt-leb}
 use Rattle.meaning.specs.Model.{_inside_}
 use Rattle.store_rules.proofs.lies_in.Statement.{statement}
 use Rattle.store_rules.proofs.lies_in.Tie as tie
-use Rattle.store_rules.proofs.end_of.Reads as end-of-reads
+use Rattle.stores.proofs.end_of.Reads as end-of-reads
 
 cast-from : tie.Need-cast-from
 cast-from c = search needs

@@ -14,7 +14,7 @@ use Rattle.store_rules.specs.Starts.{startsOf, starts-length, starts-hal
 use Rattle.store_rules.specs.Steps.{Standing, pass-start, pass-end, parent-low, pass-out, pass-early, pass-more}
 use Rattle.store_rules.proofs.lines_nest.Statement.{statement}
 use Rattle.store_rules.proofs.lines_nest.Tie as tie
-use Rattle.store_rules.proofs.end_of.Reads as end-of-reads
+use Rattle.stores.proofs.end_of.Reads as end-of-reads
 use Rattle.store_rules.proofs.half_start.Reads as half-start-reads
 use Rattle.store_rules.proofs.lies_in.Reads as lies-in-reads
 

@@ -8,7 +8,7 @@ use Rattle.meaning.specs.Model.{storeName}
 use Rattle.meaning.specs.Reports.{firstReport}
 use Rattle.meaning.specs.Calls.{checks, change, row}
 use Rattle.stores.specs.Stores.{reading as storesOf}
-use Rattle.thread_calls.specs.ThreadCalls.{placed}
+use Rattle.thread_calls.specs.ThreadCalls.{threadsAfter}
 use Rattle.thread_calls.proofs.add_thread.Statement.{statement}
 use Rattle.thread_calls.proofs.add_thread.Tie as tie
 use Rattle.stores.proofs.Stores.has.Reads as has-reads
@@ -30,14 +30,14 @@ refused-requires : tie.Need-refused-requires
 refused-requires c κs = search needs
 
 returns : tie.Need-returns
-unfolding placed row checks change firstReport
+unfolding threadsAfter row checks change firstReport
 returns c = c .refused .ensures ∙ rw (sym (c .before .before .before .has .ensures) ∙ not-true _ (c .before .if1 .taken))
 
 refused-requires-2 : tie.Need-refused-requires-2
 refused-requires-2 c κs = search needs
 
 returns-2 : tie.Need-returns-2
-unfolding placed row checks change firstReport
+unfolding threadsAfter row checks change firstReport
 returns-2 c = c .refused2 .ensures ∙ rw (store-listed (c .before .before), sym (c .before .before .before .no-place .ensures) ∙ c .before .if2 .taken)
 
 with-thread-in-requires : tie.Need-with-thread-in-requires
@@ -47,7 +47,7 @@ accepted-requires : tie.Need-accepted-requires
 accepted-requires c κs = search needs
 
 returns-3 : tie.Need-returns-3
-unfolding placed row checks change firstReport
+unfolding threadsAfter row checks change firstReport
 returns-3 c = c .accepted .ensures ∙ rw (c .before .with-thread-in .ensures, store-listed (c .before .before .before), sym (c .before .before .before .before .no-place .ensures) ∙ c .before .before .if2 .left)
 
 pub add-thread-spec : {M : Type 1} → statement M

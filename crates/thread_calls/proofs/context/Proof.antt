@@ -4,7 +4,7 @@ use mathlib.Core.Path.{sym, _∙_}
 use borrow.Author.Tests.{not-true, not-false}
 use Rattle.meaning.specs.Reports.{firstReport}
 use Rattle.meaning.specs.Calls.{checks, change, row}
-use Rattle.thread_calls.specs.ThreadCalls.{replied}
+use Rattle.meaning.specs.Parts.{replied}
 use Rattle.thread_calls.proofs.context.Statement.{statement}
 use Rattle.thread_calls.proofs.context.Tie as tie
 use Rattle.names.proofs.report.Reply.accepted.Reads as accepted-reads

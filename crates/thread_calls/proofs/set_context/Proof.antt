@@ -8,7 +8,7 @@ use Rattle.meaning.specs.Model.{threadName}
 use Rattle.meaning.specs.Reports.{firstReport}
 use Rattle.meaning.specs.Calls.{checks, change, row}
 use Rattle.threads.specs.Threads.{reading as threadsOf}
-use Rattle.thread_calls.specs.ThreadCalls.{placed}
+use Rattle.thread_calls.specs.ThreadCalls.{threadsAfter}
 use Rattle.thread_calls.proofs.set_context.Statement.{statement}
 use Rattle.thread_calls.proofs.set_context.Tie as tie
 use Rattle.stores.proofs.Stores.has.Reads as Stores-has-reads
@@ -30,14 +30,14 @@ refused-requires : tie.Need-refused-requires
 refused-requires c κs = search needs
 
 returns : tie.Need-returns
-unfolding placed row checks change firstReport
+unfolding threadsAfter row checks change firstReport
 returns c = c .refused .ensures ∙ rw (sym (c .before .before .before .has .ensures) ∙ not-true _ (c .before .if1 .taken))
 
 refused-requires-2 : tie.Need-refused-requires-2
 refused-requires-2 c κs = search needs
 
 returns-2 : tie.Need-returns-2
-unfolding placed row checks change firstReport
+unfolding threadsAfter row checks change firstReport
 returns-2 c = c .refused2 .ensures ∙ rw (thread-listed (c .before .before), sym (c .before .before .before .has2 .ensures) ∙ not-true _ (c .before .if2 .taken))
 
 with-context-requires : tie.Need-with-context-requires
@@ -47,7 +47,7 @@ accepted-requires : tie.Need-accepted-requires
 accepted-requires c κs = search needs
 
 returns-3 : tie.Need-returns-3
-unfolding placed row checks change firstReport
+unfolding threadsAfter row checks change firstReport
 returns-3 c = c .accepted .ensures ∙ rw (c .before .with-context .ensures, thread-listed (c .before .before .before), sym (c .before .before .before .before .has2 .ensures) ∙ not-false _ (c .before .before .if2 .left))
 
 pub set-context-spec : {M : Type 1} → statement M

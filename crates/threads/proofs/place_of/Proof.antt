@@ -9,8 +9,6 @@ use Rattle.lines.specs.Search.{Sought, seek-start, seek-hit, seek-miss, seek-en
 use Rattle.threads.specs.Threads.{threadLine, isThread}
 use Rattle.threads.proofs.place_of.Statement.{statement}
 use Rattle.threads.proofs.place_of.Tie as tie
-use Rattle.threads.proofs.place_of.Reads as reads
-use Rattle.threads.proofs.place_of.Lts as lts
 
 abbrev Inv-loop : tie.InvT-loop
 Inv-loop n id lines i₀ i = (i ≤ n) × (n ≤ 32) × (length lines ≡ 32) × Sought (isThread (id .0)) (live threadLine n lines) i

@@ -17,9 +17,9 @@ use Rattle.store_calls.specs.StoreCalls.{roomed}
 use Rattle.store_calls.proofs.block.allocate.Statement.{statement}
 use Rattle.store_calls.proofs.block.allocate.Tie as tie
 use Rattle.names.proofs.lines.Block.taken.Reads as taken-reads
-use Rattle.store_calls.proofs.lines.block_start.Reads as block-start-reads
+use Rattle.store_calls.proofs.lines.block_value.Reads as block-value-reads
 use Rattle.store_calls.proofs.lines.context_line.Reads as context-line-reads
-use Rattle.store_calls.proofs.lines.free_of.Reads as free-of-reads
+use Rattle.size_calls.proofs.free_of.Reads as free-of-reads
 use Rattle.store_calls.proofs.room.accepted.Reads as accepted-reads
 use Rattle.store_calls.proofs.room.refused.Reads as refused-reads
 use Rattle.stores.proofs.Stores.with_used.Reads as with-used-reads
@@ -38,10 +38,10 @@ roomy : (c : tie.Else2) → (blockTaken (c .before .before .before .before .befo
 roomy c = rw (c .before .before .free-of .ensures, c .before .before .before .taken .ensures, c .before .before .before .before .context-line .ensures) at (le-ltb _ _ (c .if2 .left))
 
 high : (c : tie.Then3) → fits32 (freePart (contextStore (storesAlone (storesOf (c .before .before .before .before .before .before .before .before .args .stores)) (threadsOf (c .before .before .before .before .before .before .before .before .args .threads))) (c .before .before .before .before .before .before .before .before .args .thread .0)) .start + allocationOverhead) ≡ false
-high c = rw (c .before .block-start .ensures, c .before .before .before .before .before .before .context-line .ensures) at (le-ltb _ _ (c .if3 .taken))
+high c = rw (c .before .block-value .ensures, c .before .before .before .before .before .before .context-line .ensures) at (le-ltb _ _ (c .if3 .taken))
 
 low : (c : tie.Else3) → fits32 (freePart (contextStore (storesAlone (storesOf (c .before .before .before .before .before .before .before .before .args .stores)) (threadsOf (c .before .before .before .before .before .before .before .before .args .threads))) (c .before .before .before .before .before .before .before .before .args .thread .0)) .start + allocationOverhead) ≡ true
-low c = rw (c .before .block-start .ensures, c .before .before .before .before .before .before .context-line .ensures) at (lt-ltb _ _ (c .if3 .left))
+low c = rw (c .before .block-value .ensures, c .before .before .before .before .before .before .context-line .ensures) at (lt-ltb _ _ (c .if3 .left))
 
 has-requires : tie.Need-has-requires
 has-requires c κs = search needs
@@ -72,8 +72,8 @@ returns-2 : tie.Need-returns-2
 unfolding roomed row checks firstReport
 returns-2 c = rw (c .refused2 .ensures, listed (c .before .before), crowded (c .before))
 
-block-start-requires : tie.Need-block-start-requires
-block-start-requires c κs = search needs
+block-value-requires : tie.Need-block-value-requires
+block-value-requires c κs = search needs
 
 refused-requires-3 : tie.Need-refused-requires-3
 refused-requires-3 c κs = search needs
@@ -99,7 +99,7 @@ accepted-requires c κs = search needs
 
 returns-4 : tie.Need-returns-4
 unfolding roomed row checks firstReport change
-returns-4 c = rw (c .accepted .ensures, c .before .with-used .ensures, c .before .before .before .before .before .before .before .before .taken .ensures, c .before .before .before .before .block-start .ensures, c .before .before .before .before .before .before .before .before .before .context-line .ensures, listed (c .before .before .before .before .before .before), roomy (c .before .before .before .before .before), low (c .before .before .before))
+returns-4 c = rw (c .accepted .ensures, c .before .with-used .ensures, c .before .before .before .before .before .before .before .before .taken .ensures, c .before .before .before .before .block-value .ensures, c .before .before .before .before .before .before .before .before .before .context-line .ensures, listed (c .before .before .before .before .before .before), roomy (c .before .before .before .before .before), low (c .before .before .before))
 
 pub allocate-spec : {M : Type 1} → statement M
 allocate-spec =
@@ -114,7 +114,7 @@ allocate-spec =
     returns
     refused-requires-2
     returns-2
-    block-start-requires
+    block-value-requires
     refused-requires-3
     returns-3
     cast-address

@@ -20,7 +20,7 @@ use Rattle.store_calls.proofs.child.make_store.Tie as tie
 use Rattle.names.proofs.lines.Store.new.Reads as new-reads
 use Rattle.names.proofs.lines.Store.taken.Reads as taken-reads
 use Rattle.store_calls.proofs.lines.context_line.Reads as context-line-reads
-use Rattle.store_calls.proofs.lines.free_of.Reads as free-of-reads
+use Rattle.size_calls.proofs.free_of.Reads as free-of-reads
 use Rattle.store_calls.proofs.lines.free_start.Reads as free-start-reads
 use Rattle.store_calls.proofs.room.accepted.Reads as accepted-reads
 use Rattle.store_calls.proofs.room.refused.Reads as refused-reads

@@ -14,8 +14,8 @@ use Rattle.stores.specs.Stores.{reading as storesOf}
 use Rattle.store_calls.proofs.resizing.resize_report.Statement.{statement}
 use Rattle.store_calls.proofs.resizing.resize_report.Tie as tie
 use Rattle.names.proofs.lines.Store.taken.Reads as taken-reads
-use Rattle.store_calls.proofs.lines.end_of.Reads as end-of-reads
-use Rattle.store_calls.proofs.lines.free_of.Reads as free-of-reads
+use Rattle.stores.proofs.end_of.Reads as end-of-reads
+use Rattle.size_calls.proofs.free_of.Reads as free-of-reads
 use Rattle.store_calls.proofs.lines.free_start.Reads as free-start-reads
 use Rattle.stores.proofs.Stores.has.Reads as has-reads
 use Rattle.stores.proofs.Stores.has_other_child.Reads as has-other-child-reads

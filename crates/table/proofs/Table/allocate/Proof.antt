@@ -5,8 +5,7 @@ use denote.Ref.{now}
 use lib.ListN.{length}
 use borrow.Author.Tests.{not-true, not-false}
 use Rattle.lines.specs.Lookup.{unmapped}
-use Rattle.table.specs.Table.{soundTable}
-use Rattle.table.specs.Laws.{Sized}
+use Rattle.table.specs.Table.{soundTable, Sized}
 use Rattle.table.specs.Calls.{answer}
 use Rattle.table.specs.Ways.{called-unsound, withStoresOf}
 use Rattle.table.specs.Lent.{blockZeroed, other-length, allocate-called, allocate-bytes}

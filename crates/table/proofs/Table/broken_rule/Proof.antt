@@ -12,7 +12,7 @@ use Rattle.table.specs.Laws.{lowestFrom5, broken-1, broken-2-to-4}
 use Rattle.table.proofs.Table.broken_rule.Statement.{statement}
 use Rattle.table.proofs.Table.broken_rule.Tie as tie
 use Rattle.areas.proofs.sound.Reads as sound-reads
-use Rattle.contexts.proofs.placed.Reads as placed-reads
+use Rattle.contexts.proofs.threads_placed.Reads as threads-placed-reads
 use Rattle.stack_rules.proofs.fit.Reads as fit-reads
 use Rattle.stack_rules.proofs.run_sound.Reads as run-sound-reads
 use Rattle.store_rules.proofs.broken_rule.Reads as broken-rule-reads
@@ -34,7 +34,7 @@ from-5 c = stores-next (c .before) ∙ rw (eq-eqb _ _ (c .if2 .left))
 -- each of which is asked where those before it hold
 placed : (c : tie.Else3) → rule5 (reading (c .before .before .before .before .before .before .before .before .before .before .before .before .before .args .self)) ≡ true
 unfolding reading
-placed c = sym (c .before .placed .ensures) ∙ not-false _ (c .if3 .left)
+placed c = sym (c .before .threads-placed .ensures) ∙ not-false _ (c .if3 .left)
 
 fit : (c : tie.Else4) → rule6 (reading (c .before .before .before .before .before .before .before .before .before .before .before .before .before .before .before .args .self)) ≡ true
 unfolding reading
@@ -57,12 +57,12 @@ broken-rule-requires c κs = search needs
 returns-2 : tie.Need-returns-2
 returns-2 c = sym (stores-next (c .before) ∙ rw (ne-eqb _ _ (c .if2 .taken)))
 
-placed-requires : tie.Need-placed-requires
-placed-requires c κs = search needs
+threads-placed-requires : tie.Need-threads-placed-requires
+threads-placed-requires c κs = search needs
 
 returns-3 : tie.Need-returns-3
 unfolding lowestFrom5 firstReport reading rule8
-returns-3 c = sym (from-5 (c .before .before) ∙ rw (sym (c .before .placed .ensures) ∙ not-true _ (c .if3 .taken)))
+returns-3 c = sym (from-5 (c .before .before) ∙ rw (sym (c .before .threads-placed .ensures) ∙ not-true _ (c .if3 .taken)))
 
 fit-requires : tie.Need-fit-requires
 fit-requires c κs = search needs
@@ -97,7 +97,7 @@ broken-rule-spec =
     returns
     broken-rule-requires
     returns-2
-    placed-requires
+    threads-placed-requires
     returns-3
     fit-requires
     returns-4

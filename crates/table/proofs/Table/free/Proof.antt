@@ -4,15 +4,14 @@ use mathlib.Core.List.{[]}
 use mathlib.Core.Path.{_≡_, refl, sym, _∙_, ap}
 use borrow.Author.Tests.{not-true, not-false}
 use Rattle.lines.specs.Lookup.{unmapped}
-use Rattle.table.specs.Table.{soundTable}
-use Rattle.table.specs.Laws.{Sized}
+use Rattle.table.specs.Table.{soundTable, Sized}
 use Rattle.table.specs.Calls.{answer}
 use Rattle.table.specs.Ways.{called-unsound, replyOf}
 use Rattle.table.specs.EachCall.{free-called}
 use borrow.Author.Needs.{needs}
 use Rattle.table.proofs.Table.free.Statement.{statement}
 use Rattle.table.proofs.Table.free.Tie as tie
-use Rattle.store_calls.proofs.free.Reads as free-reads
+use Rattle.size_calls.proofs.free.Reads as free-reads
 use Rattle.table.proofs.Table.is_sound.Reads as is-sound-reads
 use Rattle.table.proofs.answer.refused.Reads as refused-reads
 use Rattle.table.proofs.answer.told.Reads as told-reads

@@ -4,8 +4,7 @@ use mathlib.Core.Path.{_≡_, sym, _∙_}
 use native.Mathlib.Omega.{arith}
 use borrow.Author.Tests.{not-true, not-false}
 use Rattle.lines.specs.Lookup.{unmapped}
-use Rattle.table.specs.Table.{soundTable}
-use Rattle.table.specs.Laws.{Sized}
+use Rattle.table.specs.Table.{soundTable, Sized}
 use denote.Ref.{now}
 use Rattle.table.specs.Calls.{tableRun}
 use Rattle.table.specs.Lent.{run-sound}

@@ -8,13 +8,13 @@ use Rattle.threads.specs.Threads.{threadLine, reading}
 use Rattle.threads.proofs.Threads.context.Statement.{statement}
 use Rattle.threads.proofs.Threads.context.Tie as tie
 use Rattle.threads.proofs.place_of.Reads as place-of-reads
-use Rattle.threads.proofs.used.Reads as used-reads
+use Rattle.threads.proofs.in_use.Reads as in-use-reads
 
 long : (c : tie.Start) → length (c .args .self .lines) ≡ 32
 long c = search (needs, unmapped)
 
-used-requires : tie.Need-used-requires
-used-requires c κs = search needs
+in-use-requires : tie.Need-in-use-requires
+in-use-requires c κs = search needs
 
 place-of-requires : tie.Need-place-of-requires
 place-of-requires c κs = search needs
@@ -27,12 +27,12 @@ array-copy-out-t c = search needs
 
 returns : tie.Need-returns
 unfolding reading
-returns c = ap (λ (t : Thread). t .context) (at-found threadLine _ _ _ (long (c .before .before .before .before .before .before)) (c .before .before .before .before .used .ensures) threadName noSuchThread _ _ (c .before .before .before .place-of .ensures) (c .before .before .if1 .taken))
+returns c = ap (λ (t : Thread). t .context) (at-found threadLine _ _ _ (long (c .before .before .before .before .before .before)) (c .before .before .before .before .in-use .ensures) threadName noSuchThread _ _ (c .before .before .before .place-of .ensures) (c .before .before .if1 .taken))
 
 returns-2 : tie.Need-returns-2
 unfolding reading
-returns-2 c = ap (λ (t : Thread). t .context) (at-missing threadLine _ _ _ (long (c .before .before .before .before)) (c .before .before .used .ensures) threadName noSuchThread _ _ (c .before .place-of .ensures) (c .if1 .left))
+returns-2 c = ap (λ (t : Thread). t .context) (at-missing threadLine _ _ _ (long (c .before .before .before .before)) (c .before .before .in-use .ensures) threadName noSuchThread _ _ (c .before .place-of .ensures) (c .if1 .left))
 
 pub context-spec : {M : Type 1} → statement M
 context-spec =
-    tie.close (tie.spec used-requires place-of-requires mul-t array-copy-out-t returns returns-2)
+    tie.close (tie.spec in-use-requires place-of-requires mul-t array-copy-out-t returns returns-2)

@@ -6,17 +6,17 @@ use Rattle.lines.specs.Lookup.{unmapped, lines-count}
 use Rattle.threads.specs.Threads.{threadLine, reading}
 use Rattle.threads.proofs.Threads.len.Statement.{statement}
 use Rattle.threads.proofs.Threads.len.Tie as tie
-use Rattle.threads.proofs.used.Reads as used-reads
+use Rattle.threads.proofs.in_use.Reads as in-use-reads
 
 long : (c : tie.Start) → length (c .args .self .lines) ≡ 32
 long c = search (needs, unmapped)
 
-used-requires : tie.Need-used-requires
-used-requires c κs = search needs
+in-use-requires : tie.Need-in-use-requires
+in-use-requires c κs = search needs
 
 returns : tie.Need-returns
 unfolding reading
-returns c = lines-count threadLine _ _ _ (long (c .before)) (c .used .ensures)
+returns c = lines-count threadLine _ _ _ (long (c .before)) (c .in-use .ensures)
 
 pub len-spec : {M : Type 1} → statement M
-len-spec = tie.close (tie.spec used-requires returns)
+len-spec = tie.close (tie.spec in-use-requires returns)
