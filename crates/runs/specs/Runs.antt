@@ -19,6 +19,7 @@ use Rattle.meaning.specs.RunQuestion.{Part, ofStores, ofStacks, areaChecks, par
 use Rattle.meaning.specs.Laws.Agree.{holds-iff}
 use Rattle.meaning.specs.Laws.Step.{given-none}
 
+-- the part that the run question gives where the table is sound
 unfoldable pub part : Area → Area → Bytes → Bytes → ℕ → ℕ → Part
 part storeArea stackArea stores stacks a n =
     if eqb (firstReport (areaChecks (runOf storeArea) (runOf stackArea) stores stacks a n)) 0 then partOf (runOf storeArea) (runOf stackArea) a n else emptyPart

@@ -1,2 +1,2 @@
 pub mod StackCalls
-pub mod Runs
+pub mod FreeRun

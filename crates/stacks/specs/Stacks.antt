@@ -16,12 +16,15 @@ use Rattle.stacks.specs.declared.Stacks.{Stacks}
 abbrev pub view : Line → Stack
 view k = record { start = k .id .0; total = k .total }
 
+-- a stack of the model as a line
 abbrev pub back : Stack → Line
 back k = record { id = record { 0 = k .start }; total = k .total }
 
+-- the line of zeros
 abbrev pub zeros : Line
 zeros = record { id = record { 0 = 0 }; total = 0 }
 
+-- the line holds zeros
 abbrev pub isZeros : Line → Bool
 isZeros k = eqb (k .id .0) 0 && eqb (k .total) 0
 
@@ -30,6 +33,7 @@ zeros-only k h =
     let b = and-iff (eqb (k .id .0) 0) (eqb (k .total) 0) .0 h in
     λ i. record { id = record { 0 = eqb-true (k .id .0) 0 (b .0) i }; total = eqb-true (k .total) 0 (b .1) i }
 
+-- all of this as the shape of a list of 32 lines
 abbrev pub stackLine : Shape Line Stack
 stackLine = record { view = view; back = back; back-view = λ k. refl; view-back = λ k. refl; zeros = zeros; isZeros = isZeros; isZeros-true = zeros-only; limit = 32 }
 

@@ -19,12 +19,15 @@ use Rattle.stores.specs.declared.Stores.{Stores}
 abbrev pub view : Line → Store
 view s = record { start = s .id .0; total = s .total; used = s .used; parent = s .parent .0 }
 
+-- a store of the model as a line
 abbrev pub back : Store → Line
 back s = record { id = record { 0 = s .start }; total = s .total; used = s .used; parent = record { 0 = s .parent } }
 
+-- the line of zeros
 abbrev pub zeros : Line
 zeros = record { id = record { 0 = 0 }; total = 0; used = 0; parent = record { 0 = 0 } }
 
+-- the line holds zeros
 abbrev pub isZeros : Line → Bool
 isZeros s = eqb (s .id .0) 0 && eqb (s .total) 0 && eqb (s .used) 0 && eqb (s .parent .0) 0
 
@@ -40,6 +43,7 @@ zeros-only s h =
       parent = record { 0 = eqb-true (s .parent .0) 0 (b .1) i };
     }
 
+-- all of this as the shape of a list of 64 lines
 abbrev pub storeLine : Shape Line Store
 storeLine = record { view = view; back = back; back-view = λ s. refl; view-back = λ s. refl; zeros = zeros; isZeros = isZeros; isZeros-true = zeros-only; limit = 64 }
 

@@ -48,7 +48,8 @@ workInside S m (destroyStack k) = false
 workInside S m (addThread t s) = false
 workInside S m (removeThread t) = false
 
--- "Drop the questions, the refused calls and the work done inside S": a call stays if it is none of these
+-- "Drop the questions, the refused calls and the work done inside S": a call stays if it is none of these; document 01
+-- says that it is kept
 abbrev pub stays : ℕ → Model → Bytes → Call → Bool
 stays S m bs c = not (question c) && isAccepted m bs c && not (workInside S m c)
 

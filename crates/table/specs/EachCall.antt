@@ -16,7 +16,7 @@ use Rattle.table.specs.declared.Table.{Table}
 use Rattle.table.specs.Table.{reading, soundTable, Sized}
 use Rattle.table.specs.Calls.{called, answer}
 use Rattle.table.specs.Ways.{replyOf, withThreadsOf, withStoresOf, withStacksOf, model-sound, called-sound, question-way, threads-way, stores-way, stacks-way}
-use Rattle.table.specs.Fits.{make-store-fits, resize-fits, make-stack-fits, destroy-stack-fits}
+use Rattle.table.specs.Fits32.{make-store-fits, resize-fits, make-stack-fits, destroy-stack-fits}
 
 module _ (t : Table) (n : Sized t) (h : soundTable t ≡ true) where
   pub is-sound : Sound (reading t)

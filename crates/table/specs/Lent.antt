@@ -26,7 +26,7 @@ use Rattle.runs.specs.Runs.{part}
 use Rattle.table.specs.Calls.{called, answer, runNumber, tableRun}
 use Rattle.table.specs.Ways.{withStoresOf, model-sound, called-sound, stores-way}
 use Rattle.table.specs.EachCall.{is-sound}
-use Rattle.table.specs.Fits.{allocate-fits}
+use Rattle.table.specs.Fits32.{allocate-fits}
 
 -- the lent area after call 8: the block's bytes 0 where the call on the lists was accepted, else as it was
 abbrev pub blockZeroed : Table → storeCalls.Seen → ℕ → Bytes → Bytes

@@ -2,7 +2,7 @@ pub mod Table
 pub mod Laws
 pub mod Calls
 pub mod Ways
-pub mod Fits
+pub mod Fits32
 pub mod EachCall
 pub mod Lent
 pub mod Started

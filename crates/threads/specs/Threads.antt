@@ -16,12 +16,15 @@ use Rattle.threads.specs.declared.Threads.{Threads}
 abbrev pub view : Line → Thread
 view t = record { identifier = t .id .0; context = t .context .0 }
 
+-- a thread of the model as a line
 abbrev pub back : Thread → Line
 back t = record { id = record { 0 = t .identifier }; context = record { 0 = t .context } }
 
+-- the line of zeros
 abbrev pub zeros : Line
 zeros = record { id = record { 0 = 0 }; context = record { 0 = 0 } }
 
+-- the line holds zeros
 abbrev pub isZeros : Line → Bool
 isZeros t = eqb (t .id .0) 0 && eqb (t .context .0) 0
 
@@ -30,6 +33,7 @@ zeros-only t h =
     let b = and-iff (eqb (t .id .0) 0) (eqb (t .context .0) 0) .0 h in
     λ i. record { id = record { 0 = eqb-true (t .id .0) 0 (b .0) i }; context = record { 0 = eqb-true (t .context .0) 0 (b .1) i } }
 
+-- all of this as the shape of a list of 32 lines
 abbrev pub threadLine : Shape Line Thread
 threadLine = record { view = view; back = back; back-view = λ t. refl; view-back = λ t. refl; zeros = zeros; isZeros = isZeros; isZeros-true = zeros-only; limit = 32 }
 

@@ -238,9 +238,9 @@ impl Threads {
     {
         let lines = self.lines;
         let n = in_use(self.count);
-        let i = place_of(lines, n, id);
-        if i < n {
-            let t = lines[i];
+        let at = place_of(lines, n, id);
+        if at < n {
+            let t = lines[at];
             return t.context;
         }
         StoreId(0)

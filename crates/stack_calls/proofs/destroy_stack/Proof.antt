@@ -15,7 +15,7 @@ use Rattle.meaning.specs.Changes.{joined}
 use Rattle.meaning.specs.Reading.{runOf, areaOf, fits32}
 use Rattle.stacks.specs.Stacks.{reading as stacksOf}
 use Rattle.stack_calls.specs.StackCalls.{piled, runFits}
-use Rattle.stack_calls.specs.Runs.{joined-fits}
+use Rattle.stack_calls.specs.FreeRun.{joined-fits}
 use Rattle.stack_calls.proofs.destroy_stack.Statement.{statement}
 use Rattle.stack_calls.proofs.destroy_stack.Tie as tie
 use Rattle.areas.proofs.joined.Reads as joined-reads

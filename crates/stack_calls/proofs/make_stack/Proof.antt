@@ -10,7 +10,7 @@ use Rattle.meaning.specs.Calls.{checks, change, row}
 use Rattle.meaning.specs.Changes.{shortened}
 use Rattle.stacks.specs.Stacks.{reading as stacksOf}
 use Rattle.stack_calls.specs.StackCalls.{piled}
-use Rattle.stack_calls.specs.Runs.{not-cut, was-cut}
+use Rattle.stack_calls.specs.FreeRun.{not-cut, was-cut}
 use Rattle.stack_calls.proofs.make_stack.Statement.{statement}
 use Rattle.stack_calls.proofs.make_stack.Tie as tie
 use Rattle.areas.proofs.shortened.Reads as shortened-reads
