@@ -16,7 +16,7 @@ use Rattle.lists.specs.KeyedChanges.{insert-length}
 use Rattle.meaning.specs.Model.{Run, Thread, Model, Bytes, storeName, threadName, stackName}
 use Rattle.meaning.specs.Changes.{placed, started}
 use Rattle.meaning.specs.Calls.{Call, start, root, contextOf, setContext, totalOf, usedOf, freeOf, find, allocate, makeStore, clear, resize, makeStack, destroyStack, addThread, removeThread, code, checks, change, allChecks, step}
-use Rattle.meaning.specs.Laws.Step.{accepted-exact, step-accepted}
+use Rattle.meaning.specs.Laws.Step.{accepted-exact}
 use Rattle.laws.specs.AnyStep.{after-step}
 
 -- ---- limits and areas
@@ -108,8 +108,3 @@ change-fits m bs (removeThread t) f h = record { root = f .root; stores = f .sto
 -- Lists within the limits stay within them, under any call.
 pub fits-stay : (m : Model) (bs : Bytes) (c : Call) → Fits m → Fits (step m bs c .model)
 fits-stay m bs c f = after-step Fits m bs c (change-fits m bs c f) f
-
--- An accepted start brings them there from any model with room for the root.
-pub start-fits : (m : Model) (bs : Bytes) (a b : Run) → 1 ≤ m .limits .stores → step m bs (start a b) .report ≡ 0 → Fits (step m bs (start a b) .model)
-unfolding change
-start-fits m bs a b l h = rw (step-accepted m bs (start a b) h) (started-fits m a b l)

@@ -50,7 +50,7 @@ touching r k h e = elim (tested (eqb (end k) (r .start))) [
   | inr f ↦ inr (eqb-true (end r) (k .start) (unless-iff (eqb (end k) (r .start)) (eqb (end r) (k .start)) .0 (not-false _ (rw e at h)) f))
 ]
 
--- joined, they hold no more than either holds
+-- joined, they hold only what one of them holds
 joined-holds : (r k : Run) (a : ℕ) → touchesNoEnd r k ≡ false → joined r k Holds a → (r Holds a → ⊥) → k Holds a
 joined-holds r k a h i out = elim (tested (eqb (r .length) 0)) [
   | inl e ↦ rw e at i

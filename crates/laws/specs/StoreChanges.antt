@@ -1,5 +1,5 @@
--- The four changes of a list of stores, each as what it leaves and what it makes of every listed store, and that the lists of Changes.antt are such.
--- Assumes nothing.
+-- The four changes of a list of stores, said by name: what stays of every listed store and what becomes of it; and that the list functions which the calls use are
+-- such changes. Assumes nothing.
 use mathlib.Core.Bool.{Bool, true, false, _&&_, _||_}
 use mathlib.Core.List.{List}
 use mathlib.Core.Path.{_≡_, refl, sym, _∙_, ap}

@@ -14,11 +14,11 @@ use Rattle.lines.specs.Shape.{Shape, live, live-length, live-at, live-cl
 use Rattle.lines.specs.Search.{place, place-most, has-place, at-place, insert-place}
 use Rattle.lines.specs.Opened.{opened}
 
--- the length of an array of structs in a struct, as the checker knows it
+-- an array of structs is known as a mapped list; it has as many lines
 pub unmapped : {X Y : Type 0} (f : X → Y) (l : List X) (n : ℕ) → length (map f l) ≡ n → length l ≡ n
 unmapped f l n e = sym (length-map l f) ∙ e
 
--- as many lines as the list is long are as many as the count reads
+-- the length of the list that is read is the count, or the limit where the count is higher
 pub count-read : {A B : Type 0} (σ : Shape A B) (count n : ℕ) (ls : List A) → length ls ≡ σ .limit → n ≡ length (live σ count ls) → n ≡ min count (σ .limit)
 count-read σ count n ls long e = e ∙ live-length σ count ls ∙ ap (min count) long
 

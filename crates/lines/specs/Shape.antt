@@ -12,7 +12,7 @@ use lib.Seq.{take-at, take-all, getD-take}
 use Rattle.lists.specs.Lists.{all}
 use Rattle.lists.specs.Tests.{and-iff}
 
--- a line of the table A, what it means B, and the line of zeros; a table has `limit` lines
+-- A is a line as the table has it, B what it means; view and back lead from one to the other. zeros is the line of zeros, and a table has limit lines.
 pub record Shape (A B : Type 0) : Type 0 where
   pub view : A → B
   pub back : B → A

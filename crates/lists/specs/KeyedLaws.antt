@@ -1,4 +1,4 @@
--- What searching, inserting and rising mean in a list with keys. Assumes nothing.
+-- What having a key, looking it up and rising mean in a list with keys. Assumes nothing.
 use mathlib.Core.Bool.{true, false}
 use mathlib.Core.List.{List, [], _∷_, List·Memᴰ·head as here, List·Memᴰ·tail as there, List·Memᴰ·not-nil as nowhere, List·Memᴰ·cases-cons as cases-cons}
 use mathlib.Core.Logic.{_↔_, inl, inr, ⊎-elim}

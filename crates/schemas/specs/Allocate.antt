@@ -1,4 +1,4 @@
--- Call 8 meets the report's schema for allocating memory. The report's address is the block's first; the value told is behind the overhead. Assumes nothing.
+-- Call 8 meets 000's schema for allocating memory. 000's address is the block's first; the value told is that plus the overhead. Assumes nothing.
 use mathlib.Core.List.{List}
 use mathlib.Core.Logic.{inl, inr, ⊎-elim}
 use mathlib.Core.Path.{_≡_, refl, sym, _∙_, ap}
@@ -95,7 +95,7 @@ module _ (m : Model) (sound : Sound m) (c : ℕ) (there : Listed (m .stores) c) 
         first = (omega arith, λ x h. omega arith);
       }
 
--- The report's address is any number in a refusal; accepted, it and the overhead make the value.
+-- In a refusal 000's address may be any number; accepted, it and the overhead make the value.
 at-address : (m : Model) (bs : Bytes) (t n address : ℕ) (r : MMReport) → step m bs (allocate t n) .report ≡ number r
     → (step m bs (allocate t n) .report ≡ 0 → step m bs (allocate t n) .value ≡ address + allocationOverhead)
     → RThreadAllocateMemory (globalOf m) (globalOf (step m bs (allocate t n) .model)) t n address r

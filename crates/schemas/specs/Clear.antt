@@ -1,4 +1,4 @@
--- Call 10 meets the report's schema for clearing a backing store. Assumes nothing.
+-- Call 10 meets 000's schema for clearing a backing store. Assumes nothing.
 use mathlib.Core.Bool.{Bool, true, false, not}
 use mathlib.Core.List.{List}
 use mathlib.Core.Logic.{_⊎_, inl, inr, ⊎-elim}

@@ -1,4 +1,4 @@
--- Call 9 meets the report's schema for making a backing store. Assumes nothing.
+-- Call 9 meets 000's schema for making a backing store. Assumes nothing.
 use mathlib.Core.Bool.{false}
 use mathlib.Core.List.{List}
 use mathlib.Core.Logic.{_⊎_, inl, inr, ⊎-elim}
@@ -32,7 +32,7 @@ use Rattle.schemas.specs.Reading.{backingOf, storesOf, globalOf, store-i
 use Rattle.schemas.specs.Steps.{checked, unchecked, told-sound, no-thread, same-store, store-stays, block-stays, global-stays}
 use Rattle.schemas.specs.Lines.{same-line, lowEnd, low-end-taken, changes, fixed-vars}
 
--- a new store at the low end of c's free part, and the stores with it, where k is c's start
+-- a new store at the low end of c's free part, and the stores with it; k is the start of c's line, which is c (named)
 abbrev newAt : List Store → ℕ → ℕ → ℕ → Store
 newAt ss c n k = record { start = k + storeOverhead + usedIn ss c; total = storeTaken n; used = 0; parent = k }
 

@@ -1,4 +1,5 @@
--- The report's toolkit: memory as sets of addresses, contiguous memory, how many elements a set has, partial functions and the closure of a relation.
+-- What the schemas of document 000, the requirements report, are said with: memory as sets of addresses, contiguous memory, how many elements a set has,
+-- partial functions and the closure of a relation.
 -- Sets are predicates, equal where they have the same elements. Assumes nothing.
 use mathlib.Core.Bool.{Bool, true, false, not}
 use mathlib.Core.List.{List, [], _∷_, List·Memᴰ·head as here, List·Memᴰ·tail as there, List·Memᴰ·not-nil as nowhere, List·Memᴰ·cases-cons as cases-cons}

@@ -1,4 +1,4 @@
--- Calls 1, 2 and 4 to 7 meet the report's schemas: root, context, the three sizes, find. Assumes nothing.
+-- Calls 1, 2 and 4 to 7 meet 000's schemas: root, context, the three sizes, find. Assumes nothing.
 use mathlib.Core.Logic.{inl, inr, ⊎-elim}
 use mathlib.Core.Path.{_≡_, refl, sym}
 use Prim.Native.Nat.{ℕ}
@@ -6,13 +6,13 @@ use native.Mathlib.Decide.{ℕ-discrete}
 use native.Mathlib.Omega.{arith}
 use Rattle.lists.specs.Tests.{never, not-iff, reflect}
 use Rattle.lists.specs.KeyedLaws.{member-has, member-at}
-use Rattle.meaning.specs.Model.{Model, Bytes, usedPart, storeName, noSuchStore, listed, storeOf}
+use Rattle.meaning.specs.Model.{Model, Bytes, usedPart, storeName, noSuchStore, storeOf}
 use Rattle.meaning.specs.Facts.{Sound}
 use Rattle.meaning.specs.Calls.{root, contextOf, totalOf, usedOf, freeOf, find, checks, change, allChecks, step}
 use Rattle.meaning.specs.Laws.Agree.{holds-iff}
 use Rattle.meaning.specs.Laws.Step.{accepted-exact, accepted-sound, step-accepted, question-keeps-model}
 use Rattle.meaning.specs.Laws.Find.{find-right}
-use Rattle.laws.specs.ByName.{Listed, named}
+use Rattle.laws.specs.ByName.{Listed}
 use Rattle.laws.specs.Nesting.{nested-transitive, never-in-itself}
 use Rattle.laws.specs.Depth.{find-deepest}
 use Rattle.schemas.specs.Memory.{run-counts, picked}

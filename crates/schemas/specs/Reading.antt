@@ -1,4 +1,4 @@
--- A sound model read as a state of the report's schemas, and the schemas' invariants of it. Assumes nothing.
+-- A sound model read as a state of 000's schemas, and that the schemas' invariants hold of it. Assumes nothing.
 use mathlib.Core.Bool.{Bool, true, _&&_}
 use mathlib.Core.List.{List, map, Memᴰ·map, Memᴰ·of-map}
 use mathlib.Core.Logic.{_↔_, inl, inr, ⊎-elim}
@@ -29,6 +29,7 @@ use Rattle.schemas.specs.Stacks.{StackSpace, StackMemoryManager}
 
 -- ---- the reading
 
+-- a store's memory: its free part, its total and its used part; the overhead is in the total alone
 abbrev pub blockOf : Store → Block
 blockOf s = record { free = freePart s; total = whole s; used = cells (usedPart s) }
 
@@ -36,6 +37,7 @@ blockOf s = record { free = freePart s; total = whole s; used = cells (usedPart 
 abbrev pub backingOf : List Store → ℕ → Backing
 backingOf ss k = record { block = blockOf (storeOf ss k); children = λ x. Child ss x k; self = storeOf ss k .start }
 
+-- the stores, by identifier
 abbrev pub storesOf : List Store → Partial Backing
 storesOf ss = record { dom = Listed ss; at = backingOf ss }
 
@@ -43,9 +45,11 @@ storesOf ss = record { dom = Listed ss; at = backingOf ss }
 abbrev pub Known : Model → ℕ → Type 0
 Known m t = has threadName (m .threads) t ≡ true
 
+-- the threads' contexts, by identifier
 abbrev pub contextsOf : Model → Partial ℕ
 contextsOf m = record { dom = Known m; at = contextIn (m .threads) }
 
+-- the variables of GlobalMemoryManager
 abbrev pub globalOf : Model → Global
 globalOf m =
     record {
@@ -59,6 +63,7 @@ globalOf m =
 abbrev pub InStack : List Stack → Numbers
 InStack ks a = (k : Stack) × (k ∈ ks) × (stackRun k Holds a)
 
+-- the variables of StackMemoryManager: all stacks together are the used memory
 abbrev pub stacksOf : Model → StackSpace
 stacksOf m =
     record {

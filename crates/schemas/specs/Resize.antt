@@ -1,4 +1,4 @@
--- Call 11 meets the report's schema for resizing a backing store, at the new total: the size asked for with the overhead. Assumes nothing.
+-- Call 11 meets 000's schema for resizing a backing store, at the new total: the size asked for with the overhead. Assumes nothing.
 use mathlib.Core.Bool.{false}
 use mathlib.Core.List.{List}
 use mathlib.Core.Logic.{_↔_, inl, inr, ⊎-elim}
@@ -201,7 +201,7 @@ module _ (m : Model) (sound : Sound m) (x : ℕ) (there : Listed (m .stores) x) 
 
 -- ---- the call
 
--- Every report but 13, which the report's text does not have here. The identifier stays.
+-- Every report but 13, which 000 does not have here. The identifier stays.
 pub resize-meets : (m : Model) (bs : Bytes) (x n : ℕ) (r : MMReport) → step m bs (resize x n) .report ≡ number r → (number r ≡ 13 → ⊥)
     → RGlobalResizeBS (globalOf m) (globalOf (step m bs (resize x n) .model)) x (storeTaken n) x r
 unfolding checks change allChecks

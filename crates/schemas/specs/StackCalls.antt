@@ -1,4 +1,4 @@
--- Calls 12 and 13 meet the report's schemas: make stack, destroy stack. Assumes nothing.
+-- Calls 12 and 13 meet 000's schemas: make stack, destroy stack. Assumes nothing.
 use mathlib.Core.Bool.{true, false, not}
 use mathlib.Core.List.{List, [], _∷_, List·Memᴰ·head as here, List·Memᴰ·tail as there, List·Memᴰ·cases-cons as cases-cons}
 use mathlib.Core.Logic.{_⊎_, inl, inr, ⊎-elim}

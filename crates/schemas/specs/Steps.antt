@@ -1,4 +1,4 @@
--- What every call has in common: a report of the report's type is Success with the change made, or a refusal that leaves the state. Assumes nothing.
+-- What every call has in common: a call that tells a report of MMReport told MMokay and made its change, or refused and left the model. Assumes nothing.
 use mathlib.Core.Bool.{true, false}
 use mathlib.Core.List.{List, [], _∷_, nil≢cons}
 use mathlib.Core.Logic.{_⊎_, inl, inr, ⊎-elim}
@@ -29,11 +29,12 @@ pub checked : {n : ℕ} {k : Check} {ks : List Check} → First n (k ∷ ks) →
 checked (here e q) = inl (e, q)
 checked (later e f) = inr (e, f)
 
+-- no checks, no refusal
 pub unchecked : {n : ℕ} {ks : List Check} → ks ≡ [] → First n ks → ⊥
 unchecked e (here _ _) = nil≢cons (sym e)
 unchecked e (later _ _) = nil≢cons (sym e)
 
--- what is known of a call that tells a report of the report's type
+-- what is known of a call that tells a report of MMReport
 abbrev Told : Model → Bytes → Call → MMReport → Type 0
 Told m bs c r = ((r ≡ MMokay) × (step m bs c .report ≡ 0)) ⊎ ((step m bs c .model ≡ m) × First (number r) (allChecks m bs c))
 
@@ -43,7 +44,7 @@ told m bs c r h = elim (ℕ-discrete (number r) 0) [
   | no d ↦ inr (ap (λ o. o .model) (step-refused m bs c (λ e. d (sym h ∙ e))), report-exact m bs c (number r) d .0 h)
 ]
 
--- Every call but a start tells it of a sound model, by a check of its row.
+-- A call other than a start tells such a report of a sound model only, and refuses by a check of its own row.
 abbrev ToldSound : Model → Bytes → Call → MMReport → Type 0
 ToldSound m bs c r = Sound m × (((r ≡ MMokay) × (step m bs c .report ≡ 0)) ⊎ ((step m bs c .model ≡ m) × First (number r) (checks m bs c)))
 

@@ -1,4 +1,4 @@
--- Calls 3, 14 and 15 meet the report's schemas: set context, add thread, remove thread. Assumes nothing.
+-- Calls 3, 14 and 15 meet 000's schemas: set context, add thread, remove thread. Assumes nothing.
 use mathlib.Core.Bool.{true, false, not}
 use mathlib.Core.List.{List}
 use mathlib.Core.Logic.{_⊎_, inl, inr, ⊎-elim}
@@ -138,7 +138,7 @@ remove-meets m bs t r h =
     (λ a. absurd (unchecked refl (a .1)))
     (o .1)
 
--- ThreadSetAC and ThreadAdd ask for a known store: a context that is none has no state after. So refusal 5 is within the report at both.
+-- ThreadSetAC and ThreadAdd ask for a known store: a context that is none has no state after. So refusal 5 is within 000 at both.
 pub context-exists : {g g′ : Global} {t s : ℕ} → OnlyThreads g g′ (g .threadACs ⊕ t ⟼ s) → g .stores .dom s
 context-exists {g} {g′} {t} {s} o =
     let there : g′ .threadACs .dom t = o .threads .0 t .0 (inr refl) in
