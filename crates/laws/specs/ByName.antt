@@ -10,8 +10,7 @@ use native.Mathlib.Omega.{arith}
 use Rattle.lists.specs.Lists.{_∈_, rest}
 use Rattle.lists.specs.Keyed.{Rising}
 use Rattle.lists.specs.Tests.{never}
-use Rattle.lists.specs.KeyedLaws.{has-iff, has-member, member-has, at-member, at-key, member-at}
-use Rattle.lists.specs.KeyedChanges.{two-by-key, by-key-two}
+use Rattle.lists.specs.KeyedLaws.{has-iff, has-member, member-has, at-member, at-key, member-at, two-by-key, by-key-two}
 use Rattle.names.specs.Overhead.{storeOverhead}
 use Rattle.meaning.specs.Model.{Run, Store, Thread, Model, storeName, listed, noSuchStore, storeOf, rootOf}
 use Rattle.meaning.specs.Nesting.{parentIn}

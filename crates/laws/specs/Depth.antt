@@ -37,7 +37,7 @@ module _ (m : Model) (sound : Sound m) where
       rw (k .0) at u
 
   -- what is nested is deeper
-  pub nested-deeper : {x s : ℕ} → Nested ss x s → depth ss s < depth ss x
+  nested-deeper : {x s : ℕ} → Nested ss x s → depth ss s < depth ss x
   nested-deeper (child c) = let e = child-depth c in omega arith
   nested-deeper (inChild c n) = let e = child-depth c in let d = nested-deeper n in omega arith
 

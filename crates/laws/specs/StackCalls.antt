@@ -13,8 +13,8 @@ use Rattle.lists.specs.Keyed.{has, insert, remove}
 use Rattle.lists.specs.Tests.{tested, false-of, unless-iff}
 use Rattle.lists.specs.ListLaws.{keep-member}
 use Rattle.lists.specs.ListChanges.{two-keep}
-use Rattle.lists.specs.KeyedLaws.{has-member, at-member, at-key}
-use Rattle.lists.specs.KeyedChanges.{two-by-key, insert-member, sum-insert, two-insert, rising-insert, sum-remove}
+use Rattle.lists.specs.KeyedLaws.{has-member, at-member, at-key, two-by-key}
+use Rattle.lists.specs.KeyedChanges.{insert-member, sum-insert, two-insert, rising-insert, sum-remove}
 use Rattle.names.specs.Overhead.{stackTaken}
 use Rattle.meaning.specs.Model.{Run, Stack, Model, end, stackRun, stackName, noSuchStack, stackOf}
 use Rattle.meaning.specs.Reports.{touchesNoEnd}

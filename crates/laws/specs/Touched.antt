@@ -31,10 +31,10 @@ anything k = true
 abbrev pub just : ℕ → ℕ → Bool
 just s k = eqb k s
 
-abbrev pub noLine : Touched
+abbrev noLine : Touched
 noLine = record { used = nothing; total = nothing; gone = nothing; made = nothing; threads = nothing; stacks = nothing }
 
-abbrev pub everyLine : Touched
+abbrev everyLine : Touched
 everyLine = record { used = anything; total = anything; gone = anything; made = anything; threads = anything; stacks = anything }
 
 abbrev pub storeLines : (ℕ → Bool) → (ℕ → Bool) → (ℕ → Bool) → (ℕ → Bool) → Touched

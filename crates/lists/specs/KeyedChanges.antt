@@ -13,21 +13,10 @@ use Rattle.lists.specs.Lists.{_∈_, AllTwo, keep, sum}
 use Rattle.lists.specs.Keyed.{has, at, insert, remove, Rising}
 use Rattle.lists.specs.Tests.{tested, never}
 use Rattle.lists.specs.KeyedLaws.{member-has}
-use Rattle.lists.specs.ListChanges.{keep-all, two-map}
+use Rattle.lists.specs.ListChanges.{two-map}
+use Rattle.lists.specs.KeepLaws.{keep-all}
 
 module _ {A : Type 0} (key : A → ℕ) where
-  -- ---- what holds of every two, by key
-
-  pub two-by-key : (R : A → A → Type 0) (l : List A) → Rising key l → AllTwo R l → {x y : A} → x ∈ l → y ∈ l → key x < key y → R x y
-  two-by-key R (z ∷ l) r t {x} {y} (here e) (here f) k = let g = ap key e in let h = ap key f in absurd (omega arith)
-  two-by-key R (z ∷ l) r t {x} {y} (here e) (there n) k = rw e (t .0 y n)
-  two-by-key R (z ∷ l) r t {x} {y} (there m) (here f) k = let g = ap key f in let b = r .0 x m in absurd (omega arith)
-  two-by-key R (z ∷ l) r t {x} {y} (there m) (there n) k = two-by-key R l (r .1) (t .1) m n k
-
-  pub by-key-two : (R : A → A → Type 0) (l : List A) → Rising key l → ((x y : A) → x ∈ l → y ∈ l → key x < key y → R x y) → AllTwo R l
-  by-key-two R [] r h = tt
-  by-key-two R (z ∷ l) r h = ((λ y m. h z y (here refl) (there m) (r .0 y m)), by-key-two R l (r .1) (λ x y m n. h x y (there m) (there n)))
-
   -- ---- insert
 
   pub insert-member : (n : A) (l : List A) {x : A} → x ∈ insert key n l → (x ≡ n) ⊎ (x ∈ l)
@@ -126,6 +115,15 @@ module _ {A : Type 0} (key : A → ℕ) where
     at-map-same none (x ∷ l) k h = elim (tested (eqb (key x) k)) [
       | inl e ↦ rw (same x, e) (h x (eqb-true (key x) k e))
       | inr e ↦ rw (same x, e) (at-map-same none l k h)
+    ]
+
+    -- what the change leaves of an element is found as before
+    pub at-map-field : {B : Type 0} (g : A → B) → ((x : A) → g (f x) ≡ g x) → (none : ℕ → A) (l : List A) (k : ℕ)
+        → g (at key none (map f l) k) ≡ g (at key none l k)
+    at-map-field g s none [] k = refl
+    at-map-field g s none (x ∷ l) k = elim (tested (eqb (key x) k)) [
+      | inl e ↦ rw (same x, e) (s x)
+      | inr e ↦ rw (same x, e) (at-map-field g s none l k)
     ]
 
     pub rising-map : (l : List A) → Rising key l → Rising key (map f l)

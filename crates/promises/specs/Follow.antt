@@ -18,12 +18,12 @@ use Rattle.meaning.specs.Calls.{Call, step}
 use Rattle.meaning.specs.CallList.{after, bytesAfter, told}
 use Rattle.meaning.specs.Laws.Agree.{sound-agrees}
 use Rattle.meaning.specs.Laws.Step.{step-refused}
-use Rattle.laws.specs.Fits.{limits-stay}
+use Rattle.laws.specs.Fixed.{limits-stay}
 use Rattle.stretches.specs.Stretch as stretch
 use Rattle.table.specs.declared.Table.{Table}
 use Rattle.table.specs.Table.{reading, written, rule8, soundTable}
 use Rattle.table.specs.Laws.{Sized, reading-written, written-reading, broken-none}
-use Rattle.sound_tables.specs.SoundTables.{accepted-table-sound, accepted-table-sized}
+use Rattle.sound_tables.specs.SoundTables.{accepted-table-sound, table-sized-after}
 use Rattle.promises.specs.Handed.{Given, Handed, Made, none, first, lastTable, lastBytes}
 use Rattle.promises.specs.OneAnswer.{handed-called}
 use Rattle.promises.specs.Proof2.{called-meant}
@@ -65,7 +65,7 @@ follows t bs c g good h =
       | yes z ↦
           let w : g .table ≡ written (o .model) = table ∙ rw (eq-eqb (o .report) 0 z) in (
             ap reading w ∙ reading-written (o .model) (limits-stay (reading t) bs c ∙ limits-of t),
-            record { sized = rw w (accepted-table-sized t (good .sized) bs c); sound = rw w (broken-none _ .0 (accepted-table-sound t (good .sized) bs c z)) },
+            record { sized = rw w (table-sized-after t (good .sized) bs c); sound = rw w (broken-none _ .0 (accepted-table-sound t (good .sized) bs c z)) },
           )
       | no r ↦
           let w : g .table ≡ t = table ∙ rw (ne-eqb (o .report) 0 r) in

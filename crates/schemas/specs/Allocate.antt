@@ -23,9 +23,8 @@ use Rattle.schemas.specs.Stores.{SameStore, ΔBackingStore, RBSAllocate}
 use Rattle.schemas.specs.Global.{PromoteAC, GlobalAllocateMemory}
 use Rattle.schemas.specs.Threads.{RThreadAllocateMemory}
 use Rattle.schemas.specs.Reading.{backingOf, blockOf, globalOf, store-invariant}
-use Rattle.schemas.specs.Steps.{checked, unchecked, told-sound, no-thread, same-store, store-stays, block-stays, global-stays}
-use Rattle.schemas.specs.Lines.{same-line, lowEnd, low-end-taken, children-same, changes, fixed-vars}
-use Rattle.schemas.specs.Questions.{asked}
+use Rattle.schemas.specs.Steps.{checked, unchecked, told-sound, no-thread, same-store, store-stays, block-stays, global-stays, asked}
+use Rattle.schemas.specs.StoreSteps.{same-line, lowEnd, low-end-taken, children-same, stores-change, fixed-vars}
 
 module _ (m : Model) (sound : Sound m) (c : ℕ) (there : Listed (m .stores) c) (n : ℕ) (room : blockTaken n ≤ free (storeOf (m .stores) c)) where
   abbrev ss : List Store
@@ -56,7 +55,7 @@ module _ (m : Model) (sound : Sound m) (c : ℕ) (there : Listed (m .stores) c) 
   promotes : PromoteAC (globalOf m) (globalOf (withStores m ss′)) (backingOf ss c) (backingOf ss′ c) c
   promotes =
       record {
-        changes = changes m sound ss′ sound′;
+        changes = stores-change m sound ss′ sound′;
         store = context-changes;
         there = there;
         now = same-store _;
@@ -115,7 +114,7 @@ at-address m bs t n address r h v =
     inl (record {
       ac = c;
       done = inl (rw e (allocated m (o .0) c there n room (a .0) (omega arith)));
-      promotes = rw e (record { changes = changes m (o .0) _ (sound′ m (o .0) c there n room); known = f .1 .1 .0; context = refl });
+      promotes = rw e (record { changes = stores-change m (o .0) _ (sound′ m (o .0) c there n room); known = f .1 .1 .0; context = refl });
     }))
     (λ a. ⊎-elim
     (λ x. let l = number-most r in absurd (omega (arith, x .1)))

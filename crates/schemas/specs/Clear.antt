@@ -30,7 +30,7 @@ use Rattle.schemas.specs.Global.{SameStores, reached, GlobalClearBS, Glo
 use Rattle.schemas.specs.Threads.{RThreadClearBS}
 use Rattle.schemas.specs.Reading.{backingOf, storesOf, globalOf, listed-finite, store-invariant, plus-nested, nested-plus}
 use Rattle.schemas.specs.Steps.{checked, unchecked, told-sound, no-thread, same-store, global-stays}
-use Rattle.schemas.specs.Lines.{same-line, changes, fixed-vars}
+use Rattle.schemas.specs.StoreSteps.{same-line, stores-change, fixed-vars}
 
 -- the parent of a nested store is what it is nested in, or is nested there too
 parent-nested : (m : Model) → Sound m → {x s c : ℕ} → Nested (m .stores) x c → Child (m .stores) x s → (s ≡ c) ⊎ Nested (m .stores) s c
@@ -144,7 +144,7 @@ module _ (m : Model) (sound : Sound m) (c : ℕ) (there : Listed (m .stores) c) 
   clears : GlobalClearBS (globalOf m) (globalOf (withStores m ss′)) c
   clears =
       record {
-        changes = changes m sound ss′ sound′;
+        changes = stores-change m sound ss′ sound′;
         there = there;
         cleared = backingOf ss′ c;
         clears = (context-clears, refl);
@@ -182,7 +182,7 @@ clear-meets m bs t r h =
     inl (record {
       ac = c;
       done = inl (rw (step-accepted m bs call (a .1)) (clears m (o .0) c there (f .1 .1 .0)), a .0);
-      promotes = rw (step-accepted m bs call (a .1)) (record { changes = changes m (o .0) _ (sound′ m (o .0) c there (f .1 .1 .0)); known = f .1 .0; context = refl });
+      promotes = rw (step-accepted m bs call (a .1)) (record { changes = stores-change m (o .0) _ (sound′ m (o .0) c there (f .1 .1 .0)); known = f .1 .0; context = refl });
     }))
     (λ a. ⊎-elim
     (λ x. inr (no-thread (o .0) (a .0) (not-iff _ .0 (x .0)) (x .1)))

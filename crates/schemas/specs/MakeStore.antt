@@ -30,7 +30,7 @@ use Rattle.schemas.specs.Global.{SameStores, GlobalMakeBS}
 use Rattle.schemas.specs.Threads.{RThreadMakeBS}
 use Rattle.schemas.specs.Reading.{backingOf, storesOf, globalOf, store-invariant}
 use Rattle.schemas.specs.Steps.{checked, unchecked, told-sound, no-thread, same-store, store-stays, block-stays, global-stays}
-use Rattle.schemas.specs.Lines.{same-line, lowEnd, low-end-taken, changes, fixed-vars}
+use Rattle.schemas.specs.StoreSteps.{same-line, lowEnd, low-end-taken, stores-change, fixed-vars}
 
 -- a new store at the low end of c's free part, and the stores with it; k is the start of c's line, which is c (named)
 abbrev newAt : List Store → ℕ → ℕ → ℕ → Store
@@ -167,7 +167,7 @@ module _ (m : Model) (sound : Sound m) (c : ℕ) (there : Listed (m .stores) c) 
   makes : GlobalMakeBS (globalOf m) (globalOf (withStores m ss′)) n c id
   makes =
       record {
-        changes = changes m sound ss′ sound′;
+        changes = stores-change m sound ss′ sound′;
         there = there;
         allocated = lowEnd (storeOf ss c) (storeTaken n);
         parent = backingOf ss′ c;
@@ -198,7 +198,7 @@ make-store-meets m bs t n r h =
     inl (record {
       ac = c;
       done = inl (rw (e, v) (makes m (o .0) c there n room), a .0);
-      promotes = rw e (record { changes = changes m (o .0) _ (sound′ m (o .0) c there n room); known = f .1 .0; context = refl });
+      promotes = rw e (record { changes = stores-change m (o .0) _ (sound′ m (o .0) c there n room); known = f .1 .0; context = refl });
     }))
     (λ a. ⊎-elim
     (λ x. inr (no-thread (o .0) (a .0) (not-iff _ .0 (x .0)) (x .1)))

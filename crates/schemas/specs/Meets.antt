@@ -15,7 +15,7 @@ use Rattle.schemas.specs.Threads.{ThreadAdd, ThreadRemove, RThreadGetAC,
 use Rattle.schemas.specs.Stacks.{StackSpace, ΞStackMemoryManager, StackMemoryManagerInit, RStackCreate, RStackDelete}
 use Rattle.schemas.specs.Reading.{globalOf, stacksOf}
 use Rattle.schemas.specs.Steps.{told-sound}
-use Rattle.schemas.specs.Halves.{onStacks, stacks-untouched, stores-untouched}
+use Rattle.schemas.specs.Untouched.{onStacks, stacks-untouched, stores-untouched}
 use Rattle.schemas.specs.Start.{start-meets}
 use Rattle.schemas.specs.Questions.{root-meets, context-meets, total-meets, used-meets, free-meets, find-meets}
 use Rattle.schemas.specs.ThreadCalls.{set-meets, add-meets, remove-meets}

@@ -12,16 +12,14 @@ use Rattle.meaning.specs.Calls.{root, contextOf, totalOf, usedOf, freeOf, find,
 use Rattle.meaning.specs.Laws.Agree.{holds-iff}
 use Rattle.meaning.specs.Laws.Step.{accepted-exact, accepted-sound, step-accepted, question-keeps-model}
 use Rattle.meaning.specs.Laws.Find.{find-right}
-use Rattle.laws.specs.ByName.{Listed}
 use Rattle.laws.specs.Nesting.{nested-transitive, never-in-itself}
 use Rattle.laws.specs.Depth.{find-deepest}
-use Rattle.schemas.specs.Memory.{run-counts, picked}
+use Rattle.schemas.specs.Memory.{run-counts}
 use Rattle.schemas.specs.Reports.{MMReport, number, number-names}
-use Rattle.schemas.specs.Stores.{Backing, SameStore}
-use Rattle.schemas.specs.Global.{Furthest, Promoted, GlobalFindAddress, RGlobalGetRootBackingStore, RGlobalFindAddress, RGlobalGetTotalSize, RGlobalGetUsedSize, RGlobalGetFreeSize}
+use Rattle.schemas.specs.Global.{Furthest, GlobalFindAddress, RGlobalGetRootBackingStore, RGlobalFindAddress, RGlobalGetTotalSize, RGlobalGetUsedSize, RGlobalGetFreeSize}
 use Rattle.schemas.specs.Threads.{RThreadGetAC}
-use Rattle.schemas.specs.Reading.{backingOf, globalOf, store-invariant, plus-nested, nested-plus}
-use Rattle.schemas.specs.Steps.{checked, unchecked, no-store, no-thread, told-sound, block-stays, same-store, store-stays, global-stays}
+use Rattle.schemas.specs.Reading.{globalOf, store-invariant, plus-nested, nested-plus}
+use Rattle.schemas.specs.Steps.{checked, unchecked, told-sound, store-stays, block-stays, global-stays, asked, no-store, no-thread}
 
 -- ---- call 1
 
@@ -50,31 +48,6 @@ context-meets m bs t r h =
     (o .1)
 
 -- ---- calls 4 to 6
-
--- a question of one store promotes a question of its block
-pub asked : (m : Model) → Sound m → (s : ℕ) → Listed (m .stores) s → (ask : Backing → Backing → Type 0) → ask (backingOf (m .stores) s) (backingOf (m .stores) s)
-    → Promoted ask (globalOf m) (globalOf m) s
-asked m sound s h ask a =
-    let ss = m .stores in
-    let i = store-invariant m sound s h in
-    let g = global-stays {m = m} sound refl in
-    record {
-      store = backingOf ss s;
-      after = backingOf ss s;
-      done = a;
-      promotes =
-          record {
-            changes = g .changes;
-            store = record { before = i; after = i };
-            there = h;
-            now = same-store _;
-            stores = (
-              λ k. (λ u. ⊎-elim (λ l. l) (λ e. rw e h) u, λ l. inl l),
-              λ k u. picked (λ b. SameStore b (backingOf ss k)) k s (λ e. rw e (same-store _)) (λ d. same-store _),
-            );
-            fixed = g .fixed;
-          };
-    }
 
 module _ (m : Model) (bs : Bytes) (s : ℕ) (r : MMReport) where
   pub total-meets : step m bs (totalOf s) .report ≡ number r

@@ -11,8 +11,7 @@ use Rattle.lists.specs.Lists.{_∈_, keep}
 use Rattle.lists.specs.Keyed.{has}
 use Rattle.lists.specs.Tests.{reflect}
 use Rattle.lists.specs.ListLaws.{keep-member, member-keep}
-use Rattle.lists.specs.KeyedLaws.{member-has, at-member, at-key, member-at}
-use Rattle.lists.specs.KeyedChanges.{two-by-key}
+use Rattle.lists.specs.KeyedLaws.{member-has, at-member, at-key, member-at, two-by-key}
 use Rattle.meaning.specs.Model.{Store, Stack, Model, whole, usedPart, freePart, stackRun, storeName, threadName, stackName, noSuchStore, noSuchStack, storeOf, contextIn, stackOf, rootOf}
 use Rattle.meaning.specs.Nesting.{Child, Nested, child, inChild, parentIn}
 use Rattle.meaning.specs.Facts.{_Holds_, Sound}

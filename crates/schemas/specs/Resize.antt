@@ -28,7 +28,7 @@ use Rattle.schemas.specs.Stores.{SameStore, BSResize, BSResizeChild}
 use Rattle.schemas.specs.Global.{Global, SameStores, GlobalResizeBS, RGlobalResizeBS}
 use Rattle.schemas.specs.Reading.{backingOf, storesOf, globalOf, store-invariant}
 use Rattle.schemas.specs.Steps.{checked, unchecked, told-sound, no-store, same-store, global-stays}
-use Rattle.schemas.specs.Lines.{same-line, children-same, changes, fixed-vars}
+use Rattle.schemas.specs.StoreSteps.{same-line, children-same, stores-change, fixed-vars}
 use Rattle.schemas.specs.ResizeErrors.{is-child, parent-there, only-child, not-only, not-empty, no-room}
 
 module _ (m : Model) (sound : Sound m) (x : ℕ) (there : Listed (m .stores) x) (notRoot : x ≡ rootOf (m .stores) → ⊥) (alone : notOnlyChild m x ≡ false)
@@ -182,7 +182,7 @@ module _ (m : Model) (sound : Sound m) (x : ℕ) (there : Listed (m .stores) x) 
   resizes : GlobalResizeBS (globalOf m) (globalOf (withStores m ss′)) x n x
   resizes =
       record {
-        changes = changes m sound ss′ sound′;
+        changes = stores-change m sound ss′ sound′;
         notRoot = notRoot;
         there = there;
         child = backingOf ss′ x;

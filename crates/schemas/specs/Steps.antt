@@ -16,13 +16,15 @@ use Rattle.meaning.specs.Reports.{Check}
 use Rattle.meaning.specs.Calls.{Call, code, checks, allChecks, step}
 use Rattle.meaning.specs.Laws.Agree.{sound-agrees}
 use Rattle.meaning.specs.Laws.Step.{First, here, later, step-refused, report-exact, accepted-sound}
+use Rattle.laws.specs.ByName.{Listed}
+use Rattle.schemas.specs.Memory.{picked}
 use Rattle.schemas.specs.Reports.{MMReport, MMokay, number, number-names, number-most}
 use Rattle.schemas.specs.Blocks.{Block, SameBlock, ΞMemoryBlock}
 use Rattle.schemas.specs.Stores.{Backing, BackingStore, SameStore, ΞBackingStore}
-use Rattle.schemas.specs.Global.{ΞGlobalMemoryManager, GlobalNonexistentBS}
+use Rattle.schemas.specs.Global.{ΞGlobalMemoryManager, Promoted, GlobalNonexistentBS}
 use Rattle.schemas.specs.Threads.{InvalidThreadAC}
 use Rattle.schemas.specs.Stacks.{ΞStackMemoryManager}
-use Rattle.schemas.specs.Reading.{globalOf, stacksOf, global-invariant, stack-invariant}
+use Rattle.schemas.specs.Reading.{backingOf, globalOf, stacksOf, store-invariant, global-invariant, stack-invariant}
 
 -- the first check refuses, or it does not and a later one does
 pub checked : {n : ℕ} {k : Check} {ks : List Check} → First n (k ∷ ks) → ((k .condition ≡ true) × (k .report ≡ n)) ⊎ ((k .condition ≡ false) × First n ks)
@@ -93,6 +95,31 @@ stacks-stay {m} sound e =
       block = same-block _;
       stacks = (λ a. (λ x. x, λ x. x), λ k h a. (λ x. x, λ x. x));
     })
+
+-- an operation that leaves a store as it is, promoted to a state that is left as it is
+pub asked : (m : Model) → Sound m → (s : ℕ) → Listed (m .stores) s → (ask : Backing → Backing → Type 0) → ask (backingOf (m .stores) s) (backingOf (m .stores) s)
+    → Promoted ask (globalOf m) (globalOf m) s
+asked m sound s h ask a =
+    let ss = m .stores in
+    let i = store-invariant m sound s h in
+    let g = global-stays {m = m} sound refl in
+    record {
+      store = backingOf ss s;
+      after = backingOf ss s;
+      done = a;
+      promotes =
+          record {
+            changes = g .changes;
+            store = record { before = i; after = i };
+            there = h;
+            now = same-store _;
+            stores = (
+              λ k. (λ u. ⊎-elim (λ l. l) (λ e. rw e h) u, λ l. inl l),
+              λ k u. picked (λ b. SameStore b (backingOf ss k)) k s (λ e. rw e (same-store _)) (λ d. same-store _),
+            );
+            fixed = g .fixed;
+          };
+    }
 
 -- ---- refusals that several calls share
 

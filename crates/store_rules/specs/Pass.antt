@@ -13,8 +13,7 @@ use Rattle.lists.specs.Choice.{if_then_else_}
 use Rattle.lists.specs.Lists.{_∈_, all, allTwo, AllTwo, rest}
 use Rattle.lists.specs.ListLaws.{all-member, all-of, allTwo-iff}
 use Rattle.lists.specs.Keyed.{rising, Rising}
-use Rattle.lists.specs.KeyedLaws.{rising-iff, at-member, at-key, member-at}
-use Rattle.lists.specs.KeyedChanges.{two-by-key, by-key-two}
+use Rattle.lists.specs.KeyedLaws.{rising-iff, at-member, at-key, member-at, two-by-key, by-key-two}
 use Rattle.lists.specs.Tests.{tested, same-test, and-iff, implies-iff, reflect}
 use Rattle.names.specs.Overhead.{storeOverhead}
 use Rattle.meaning.specs.Model.{Store, end, _inside_, _apartFrom_, whole, usedPart, storeName, listed, noSuchStore, storeOf}

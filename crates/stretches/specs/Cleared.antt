@@ -9,8 +9,7 @@ use borrow.Author.Tests.{ne-eqb}
 use Rattle.lists.specs.Lists.{keep}
 use Rattle.lists.specs.Tests.{tested, never, false-of, same-test}
 use Rattle.lists.specs.KeyedLaws.{at-none}
-use Rattle.lists.specs.KeyedChanges.{has-map, at-map-same, has-keep, at-keep}
-use Rattle.lists.specs.KeyedKeepLaws.{at-map-field}
+use Rattle.lists.specs.KeyedChanges.{has-map, at-map-same, at-map-field, has-keep, at-keep}
 use Rattle.meaning.specs.Model.{Store, Model, storeName, listed, noSuchStore, storeOf, rootOf}
 use Rattle.meaning.specs.Nesting.{Child, Nested, child, inChild, nested, parentIn}
 use Rattle.meaning.specs.Facts.{Sound}

@@ -12,7 +12,7 @@ use Rattle.meaning.specs.Facts.{Sound}
 use Rattle.meaning.specs.Calls.{Call, start, root, contextOf, setContext, totalOf, usedOf, freeOf, find, allocate, makeStore, clear, resize, makeStack, destroyStack, addThread, removeThread, code, change, step}
 use Rattle.meaning.specs.Laws.Step.{step-accepted, step-refused}
 use Rattle.laws.specs.ByName.{Listed, named}
-use Rattle.laws.specs.Fits.{areas-stay}
+use Rattle.laws.specs.Fixed.{areas-stay}
 use Rattle.laws.specs.Stays.{untouched-stays}
 use Rattle.laws.specs.Touched.{touched}
 use Rattle.stretches.specs.Stretch.{question, isAccepted, workInside, stays, startsOrResizes}

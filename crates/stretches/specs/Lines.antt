@@ -10,7 +10,7 @@ use borrow.Author.Tests.{eqb-true, ne-eqb}
 use Rattle.lists.specs.Tests.{tested, never, not-iff, unless-iff}
 use Rattle.lists.specs.ListLaws.{keep-member}
 use Rattle.lists.specs.KeepLaws.{map-agree, map-swap, keep-agree, keep-map}
-use Rattle.lists.specs.KeyedKeepLaws.{at-map-field}
+use Rattle.lists.specs.KeyedChanges.{at-map-field}
 use Rattle.meaning.specs.Model.{Store, Model, storeName, noSuchStore}
 use Rattle.meaning.specs.Nesting.{nested, climbs}
 use Rattle.meaning.specs.Changes.{lineWithUsed, cleared, withStores}

@@ -9,7 +9,8 @@ use lib.Dec.{eqb}
 use borrow.Author.Tests.{eqb-true, eq-eqb, ne-eqb}
 use Rattle.lists.specs.Lists.{any, rest}
 use Rattle.lists.specs.Tests.{tested, never, same-test, unless-iff, reflect}
-use Rattle.lists.specs.KeepLaws.{any-map, any-rest-keep, rest-map}
+use Rattle.lists.specs.KeepLaws.{rest-map}
+use Rattle.lists.specs.ListChanges.{any-map, any-rest-keep}
 use Rattle.names.specs.Overhead.{storeTaken}
 use Rattle.meaning.specs.Model.{Store, Model, Bytes, storeOf}
 use Rattle.meaning.specs.Nesting.{Nested, child, inChild, nested, parentIn}
