@@ -1,11 +1,11 @@
 -- What a list in an array tells by key: from the place that a search finds to the list that the lines mean, whatever the count says. Assumes nothing.
 use mathlib.Core.Bool.{Bool}
-use mathlib.Core.List.{List, map}
+use mathlib.Core.List.{List}
 use mathlib.Core.Path.{_≡_, sym, _∙_, ap}
 use Prim.Native.Nat.{ℕ, _+_, _≤_, _<_, min}
 use native.Mathlib.Omega.{arith}
 use lib.Dec.{ltb, eqb}
-use lib.ListN.{length, getD, List·getD-eq-default, length-map}
+use lib.ListN.{length, getD, List·getD-eq-default}
 use borrow.Author.Tests.{le-ltb}
 use Rattle.lists.specs.Keyed.{has, at, insert}
 use Rattle.lists.specs.KeyedLaws.{at-none}
@@ -13,10 +13,6 @@ use Rattle.lists.specs.KeyedChanges.{insert-length}
 use Rattle.lines.specs.Shape.{Shape, live, live-length, live-at, live-clamp}
 use Rattle.lines.specs.Search.{place, place-most, has-place, at-place, insert-place}
 use Rattle.lines.specs.Opened.{opened}
-
--- an array of structs is known as a mapped list; it has as many lines
-pub unmapped : {X Y : Type 0} (f : X → Y) (l : List X) (n : ℕ) → length (map f l) ≡ n → length l ≡ n
-unmapped f l n e = sym (length-map l f) ∙ e
 
 -- the length of the list that is read is the count, or the limit where the count is higher
 pub count-read : {A B : Type 0} (σ : Shape A B) (count n : ℕ) (ls : List A) → length ls ≡ σ .limit → n ≡ length (live σ count ls) → n ≡ min count (σ .limit)

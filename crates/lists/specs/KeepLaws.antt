@@ -1,8 +1,12 @@
--- How keeping some elements and changing each go together: equal lists. Assumes nothing.
+-- How keeping some elements and changing each go together, and keeping goes with the first elements of a list: equal lists. Assumes nothing.
 use mathlib.Core.Bool.{Bool, true, false}
-use mathlib.Core.List.{List, [], _∷_, map, List·Memᴰ·head as here, List·Memᴰ·tail as there}
+use mathlib.Core.List.{List, [], _∷_, _++_, map, append-nil, List·Memᴰ·head as here, List·Memᴰ·tail as there}
 use mathlib.Core.Logic.{inl, inr}
-use mathlib.Core.Path.{_≡_, refl}
+use mathlib.Core.Path.{_≡_, refl, ap}
+use Prim.Native.Nat.{ℕ, _+_, _<_}
+use native.Mathlib.Numerals.{add-one}
+use lib.ListN.{length, take, getD}
+use lib.Seq.{take-suc}
 use Rattle.lists.specs.Lists.{_∈_, keep, rest}
 use Rattle.lists.specs.Tests.{tested}
 
@@ -67,3 +71,17 @@ module _ {A : Type 0} where
   pub rest-map : (f : A → A) (l : List A) → rest (map f l) ≡ map f (rest l)
   rest-map f [] = refl
   rest-map f (x ∷ l) = refl
+
+  keep-append : (p : A → Bool) (s t : List A) → keep p (s ++ t) ≡ keep p s ++ keep p t
+  keep-append p [] t = refl
+  keep-append p (x ∷ s) t = elim (tested (p x)) [
+    | inl e ↦ rw e (ap (λ l. x ∷ l) (keep-append p s t))
+    | inr e ↦ rw e (keep-append p s t)
+  ]
+
+  -- of one element more, kept or left out
+  pub keep-in : (p : A → Bool) (l : List A) (i : ℕ) (d : A) → i < length l → p (getD l i d) ≡ true → keep p (take (i + 1) l) ≡ keep p (take i l) ++ (getD l i d ∷ [])
+  keep-in p l i d h e = rw (add-one, take-suc l i d, keep-append p (take i l) (getD l i d ∷ []), e)
+
+  pub keep-out : (p : A → Bool) (l : List A) (i : ℕ) (d : A) → i < length l → p (getD l i d) ≡ false → keep p (take (i + 1) l) ≡ keep p (take i l)
+  keep-out p l i d h e = rw (add-one, take-suc l i d, keep-append p (take i l) (getD l i d ∷ []), e) (append-nil (keep p (take i l)))
