@@ -10,13 +10,13 @@ use native.Mathlib.Omega.{arith}
 use Rattle.lists.specs.Lists.{_∈_, rest}
 use Rattle.lists.specs.Keyed.{Rising}
 use Rattle.lists.specs.Tests.{never}
-use Rattle.lists.specs.KeyedLaws.{has-iff, has-member, member-has, at-member, at-key, member-at, two-by-key, by-key-two}
+use Rattle.lists.specs.KeyedLaws.{has-iff, has-member, member-has, at-member, member-at, two-by-key, by-key-two}
 use Rattle.names.specs.Overhead.{storeOverhead}
 use Rattle.meaning.specs.Model.{Run, Store, Thread, Model, storeName, listed, noSuchStore, storeOf, rootOf}
 use Rattle.meaning.specs.Nesting.{parentIn}
 use Rattle.meaning.specs.Facts.{Rule2, Rule3, Rule4, Sound}
 use Rattle.meaning.specs.Changes.{withStores}
-use Rattle.meaning.specs.Laws.Nested.{root-or-other, root-listed, root-own-parent}
+use Rattle.meaning.specs.Laws.Nested.{named, root-or-other, root-listed, root-own-parent}
 use Rattle.laws.specs.Frames.{sound-with-stores}
 
 -- a store of this name is listed
@@ -29,9 +29,6 @@ totalIn ss k = storeOf ss k .total
 
 abbrev pub usedIn : List Store → ℕ → ℕ
 usedIn ss k = storeOf ss k .used
-
-pub named : (ss : List Store) (k : ℕ) → storeOf ss k .start ≡ k
-named ss k = at-key storeName noSuchStore (λ x. refl) ss k
 
 -- of a store but the root: its parent is listed, its total is at least 16 and lies in the parent's used part
 pub record Hung (ss : List Store) (k : ℕ) : Type 0 where

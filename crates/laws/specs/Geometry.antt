@@ -11,8 +11,8 @@ use Rattle.names.specs.Overhead.{storeOverhead}
 use Rattle.meaning.specs.Model.{Store, Model, whole, usedPart, freePart, free, listed, storeOf}
 use Rattle.meaning.specs.Nesting.{Child, Nested, child, inChild, parentIn}
 use Rattle.meaning.specs.Facts.{_Holds_, _Inside_, _ApartFrom_, Sound}
-use Rattle.meaning.specs.Laws.Nested.{child-link, link-child}
-use Rattle.laws.specs.ByName.{Listed, totalIn, usedIn, named, ByName, by-name}
+use Rattle.meaning.specs.Laws.Nested.{named, child-link, link-child}
+use Rattle.laws.specs.ByName.{Listed, totalIn, usedIn, ByName, by-name}
 use Rattle.laws.specs.Nesting.{nested-transitive, nested-below, inner-listed, outer-listed}
 
 module _ (m : Model) (sound : Sound m) where
@@ -48,7 +48,7 @@ module _ (m : Model) (sound : Sound m) where
   nested-inside {x} {s} n = let g = lies n in let p = named ss x in let q = named ss s in omega arith
 
   -- of two children of one parent the lower ends before the other
-  siblings : {a b p : ℕ} → Child ss a p → Child ss b p → a < b → a + totalIn ss a ≤ b
+  pub siblings : {a b p : ℕ} → Child ss a p → Child ss b p → a < b → a + totalIn ss a ≤ b
   siblings {a} {b} {p} c d l =
       let i = child-link m sound c in
       let j = child-link m sound d in

@@ -16,10 +16,11 @@ use Rattle.meaning.specs.Model.{Store, Thread, Stack, Run, Model, Bytes, storeN
 use Rattle.meaning.specs.Nesting.{nested, parentIn}
 use Rattle.meaning.specs.Changes.{withUsed, withTotal, cleared, withContext, withStores, withThreads, withStacks}
 use Rattle.meaning.specs.Calls.{Call, start, root, contextOf, setContext, totalOf, usedOf, freeOf, find, allocate, makeStore, clear, resize, makeStack, destroyStack, addThread, removeThread, checks, change, allChecks, step}
+use Rattle.meaning.specs.Laws.Nested.{named}
 use Rattle.meaning.specs.Laws.Step.{accepted-exact, accepted-sound}
 use Rattle.meaning.specs.Laws.Within.{context-listed}
 use Rattle.laws.specs.AnyStep.{after-step}
-use Rattle.laws.specs.ByName.{Listed, usedIn, named}
+use Rattle.laws.specs.ByName.{Listed, usedIn}
 use Rattle.laws.specs.Geometry.{none-at-free}
 use Rattle.laws.specs.StoreChanges.{used-set, resized, kept, added}
 use Rattle.laws.specs.Touched.{nothing, just, storeLines, threadLine, stackLine, Touched, touched, SameLine, StoresStay, Stays}

@@ -20,8 +20,8 @@ use Rattle.meaning.specs.Nesting.{Nested, child, nested, parentIn}
 use Rattle.meaning.specs.Reports.{inUse, notOnlyChild}
 use Rattle.meaning.specs.Facts.{Sound}
 use Rattle.meaning.specs.Changes.{withUsed, withTotal, cleared, withStores}
-use Rattle.meaning.specs.Laws.Nested.{link-child, nested-agrees}
-use Rattle.laws.specs.ByName.{Listed, totalIn, usedIn, named, ByName, by-name, root-start, other-line, named-sound}
+use Rattle.meaning.specs.Laws.Nested.{named, link-child, nested-agrees}
+use Rattle.laws.specs.ByName.{Listed, totalIn, usedIn, ByName, by-name, root-start, other-line, named-sound}
 use Rattle.laws.specs.Nesting.{nested-transitive, nested-below, never-in-itself}
 use Rattle.laws.specs.Geometry.{none-at-free}
 use Rattle.laws.specs.StoreChanges.{UsedSet, used-set, resized, kept, added}

@@ -12,7 +12,8 @@ use Rattle.lists.specs.KeyedChanges.{has-insert, at-insert-new, at-insert-old, 
 use Rattle.meaning.specs.Model.{Store, storeName, listed, noSuchStore, storeOf}
 use Rattle.meaning.specs.Nesting.{parentIn}
 use Rattle.meaning.specs.Changes.{withUsed, withTotal}
-use Rattle.laws.specs.ByName.{Listed, totalIn, usedIn, named}
+use Rattle.meaning.specs.Laws.Nested.{named}
+use Rattle.laws.specs.ByName.{Listed, totalIn, usedIn}
 
 -- ---- another used
 

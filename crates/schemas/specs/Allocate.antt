@@ -11,9 +11,10 @@ use Rattle.meaning.specs.Model.{Store, Model, Bytes, free, storeOf, contextIn}
 use Rattle.meaning.specs.Facts.{Sound}
 use Rattle.meaning.specs.Changes.{withUsed, withStores}
 use Rattle.meaning.specs.Calls.{allocate, checks, change, allChecks, step}
+use Rattle.meaning.specs.Laws.Nested.{named}
 use Rattle.meaning.specs.Laws.Step.{accepted-exact, step-accepted}
 use Rattle.meaning.specs.Laws.Within.{context-listed}
-use Rattle.laws.specs.ByName.{Listed, usedIn, named, by-name}
+use Rattle.laws.specs.ByName.{Listed, usedIn, by-name}
 use Rattle.laws.specs.StoreChanges.{UsedSet, used-set}
 use Rattle.laws.specs.StoreCalls.{allocate-sound}
 use Rattle.schemas.specs.Memory.{picked}

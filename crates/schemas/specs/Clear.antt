@@ -16,10 +16,10 @@ use Rattle.meaning.specs.Facts.{Sound}
 use Rattle.meaning.specs.Reports.{inUse}
 use Rattle.meaning.specs.Changes.{cleared, withStores}
 use Rattle.meaning.specs.Calls.{clear, checks, change, allChecks, step}
-use Rattle.meaning.specs.Laws.Nested.{child-link, link-child, nested-agrees}
+use Rattle.meaning.specs.Laws.Nested.{named, child-link, link-child, nested-agrees}
 use Rattle.meaning.specs.Laws.Step.{accepted-exact, step-accepted}
 use Rattle.meaning.specs.Laws.Within.{context-listed}
-use Rattle.laws.specs.ByName.{Listed, totalIn, named, by-name}
+use Rattle.laws.specs.ByName.{Listed, totalIn, by-name}
 use Rattle.laws.specs.Nesting.{never-in-itself, inner-listed}
 use Rattle.laws.specs.StoreChanges.{UsedSet, used-set, Kept, kept}
 use Rattle.laws.specs.StoreCalls.{clear-sound}

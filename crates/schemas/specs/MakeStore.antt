@@ -15,10 +15,10 @@ use Rattle.meaning.specs.Nesting.{Child, child, parentIn}
 use Rattle.meaning.specs.Facts.{Sound}
 use Rattle.meaning.specs.Changes.{withUsed, withStores}
 use Rattle.meaning.specs.Calls.{makeStore, checks, change, allChecks, step}
-use Rattle.meaning.specs.Laws.Nested.{child-link, link-child}
+use Rattle.meaning.specs.Laws.Nested.{named, child-link, link-child}
 use Rattle.meaning.specs.Laws.Step.{accepted-exact, step-accepted}
 use Rattle.meaning.specs.Laws.Within.{context-listed}
-use Rattle.laws.specs.ByName.{Listed, totalIn, usedIn, named, by-name}
+use Rattle.laws.specs.ByName.{Listed, totalIn, usedIn, by-name}
 use Rattle.laws.specs.Nesting.{inner-listed, outer-listed}
 use Rattle.laws.specs.Geometry.{none-at-free}
 use Rattle.laws.specs.StoreChanges.{UsedSet, used-set, Added, added}

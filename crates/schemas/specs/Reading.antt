@@ -15,11 +15,11 @@ use Rattle.lists.specs.KeyedLaws.{member-has, at-member, at-key, member-at, two
 use Rattle.meaning.specs.Model.{Store, Stack, Model, whole, usedPart, freePart, stackRun, storeName, threadName, stackName, noSuchStore, noSuchStack, storeOf, contextIn, stackOf, rootOf}
 use Rattle.meaning.specs.Nesting.{Child, Nested, child, inChild, parentIn}
 use Rattle.meaning.specs.Facts.{_Holds_, Sound}
-use Rattle.meaning.specs.Laws.Nested.{child-link, link-child, root-listed}
+use Rattle.meaning.specs.Laws.Nested.{named, child-link, link-child, root-listed}
 use Rattle.meaning.specs.Laws.Within.{context-listed}
-use Rattle.laws.specs.ByName.{Listed, named, ByName, by-name}
+use Rattle.laws.specs.ByName.{Listed, ByName, by-name}
 use Rattle.laws.specs.Nesting.{never-in-itself, inner-listed, outer-listed, others-in-root}
-use Rattle.laws.specs.Geometry.{nested-inside}
+use Rattle.laws.specs.Geometry.{nested-inside, siblings}
 use Rattle.schemas.specs.Memory.{Numbers, _≐_, _apart_, Finite, cells, run-counts, Partial, Plus, one, more}
 use Rattle.schemas.specs.Blocks.{Block}
 use Rattle.schemas.specs.Stores.{Backing, BackingStore}
@@ -126,10 +126,7 @@ module _ (m : Model) (sound : Sound m) where
   -- two children of one store share no address
   children-apart : (k i j : ℕ) → Child ss i k → Child ss j k → i < j → cells (whole (storeOf ss i)) apart cells (whole (storeOf ss j))
   children-apart k i j c d l a x y =
-      let p = child-link m sound c in
-      let q = child-link m sound d in
-      let low = by .lowest k (outer-listed m sound (child c)) in
-      let z = by .apart i j (inner-listed m sound (child c)) (inner-listed m sound (child d)) (omega arith) (p .0 ∙ sym (q .0)) l in
+      let z = siblings m sound c d l in
       omega (arith, named ss i, named ss j)
 
   -- GlobalMemoryManager

@@ -15,9 +15,9 @@ use Rattle.meaning.specs.Facts.{Sound}
 use Rattle.meaning.specs.Reports.{notOnlyChild}
 use Rattle.meaning.specs.Changes.{withUsed, withTotal, withStores}
 use Rattle.meaning.specs.Calls.{resize, checks, change, allChecks, step}
-use Rattle.meaning.specs.Laws.Nested.{child-link}
+use Rattle.meaning.specs.Laws.Nested.{named, child-link}
 use Rattle.meaning.specs.Laws.Step.{accepted-exact, step-accepted}
-use Rattle.laws.specs.ByName.{Listed, totalIn, usedIn, named, by-name}
+use Rattle.laws.specs.ByName.{Listed, totalIn, usedIn, by-name}
 use Rattle.laws.specs.Nesting.{inner-listed}
 use Rattle.laws.specs.Geometry.{nested-inside}
 use Rattle.laws.specs.StoreChanges.{Resized, resized}

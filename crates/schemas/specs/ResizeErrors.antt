@@ -16,8 +16,8 @@ use Rattle.meaning.specs.Model.{Store, Model, whole, usedPart, free, storeOf, r
 use Rattle.meaning.specs.Nesting.{Child, child, parentIn}
 use Rattle.meaning.specs.Facts.{Sound}
 use Rattle.meaning.specs.Reports.{notOnlyChild}
-use Rattle.meaning.specs.Laws.Nested.{child-link, link-child}
-use Rattle.laws.specs.ByName.{Listed, totalIn, usedIn, named, by-name, root-start}
+use Rattle.meaning.specs.Laws.Nested.{named, child-link, link-child}
+use Rattle.laws.specs.ByName.{Listed, totalIn, usedIn, by-name, root-start}
 use Rattle.laws.specs.Nesting.{outer-listed}
 use Rattle.schemas.specs.Memory.{_≐_, ⟨_⟩, run-counts}
 use Rattle.schemas.specs.Reports.{MMReport, number, number-names}

@@ -10,8 +10,8 @@ use Rattle.meaning.specs.Model.{Run, Store, Model, freePart, listed}
 use Rattle.meaning.specs.Nesting.{Child, child, parentIn}
 use Rattle.meaning.specs.Facts.{Sound}
 use Rattle.meaning.specs.Changes.{withStores}
-use Rattle.meaning.specs.Laws.Nested.{child-link, link-child}
-use Rattle.laws.specs.ByName.{Listed, totalIn, usedIn, named, root-start}
+use Rattle.meaning.specs.Laws.Nested.{named, child-link, link-child}
+use Rattle.laws.specs.ByName.{Listed, totalIn, usedIn, root-start}
 use Rattle.laws.specs.Nesting.{inner-listed}
 use Rattle.schemas.specs.Blocks.{ΔMemoryBlock, MBAllocate}
 use Rattle.schemas.specs.Stores.{SameStore}

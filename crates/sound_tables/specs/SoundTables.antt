@@ -33,7 +33,7 @@ written-sound m e f s =
       ),
     )
 
-table-limits : (t : Table) → reading t .limits ≡ tableLimits
+pub table-limits : (t : Table) → reading t .limits ≡ tableLimits
 unfolding reading
 table-limits t = refl
 

@@ -18,9 +18,9 @@ use Rattle.meaning.specs.Reports.{parentStore, notOnlyChild}
 use Rattle.meaning.specs.Facts.{Sound}
 use Rattle.meaning.specs.Changes.{lineWithUsed, lineWithTotal, cleared, withStores}
 use Rattle.meaning.specs.Calls.{resize, checks, change, allChecks, step}
-use Rattle.meaning.specs.Laws.Nested.{child-link, link-child, nested-agrees}
+use Rattle.meaning.specs.Laws.Nested.{named, child-link, link-child, nested-agrees}
 use Rattle.meaning.specs.Laws.Step.{accepted-exact}
-use Rattle.laws.specs.ByName.{Listed, totalIn, named, by-name, root-start}
+use Rattle.laws.specs.ByName.{Listed, totalIn, by-name, root-start}
 use Rattle.laws.specs.Nesting.{nested-transitive}
 use Rattle.stretches.specs.Stretch.{within, moved}
 use Rattle.stretches.specs.Cleared.{notIn, stays-listed, stays-same, root-left}
