@@ -11,7 +11,7 @@ use Rattle.lists.specs.Lists.{_∈_, keep}
 use Rattle.lists.specs.Keyed.{has}
 use Rattle.lists.specs.Tests.{reflect}
 use Rattle.lists.specs.ListLaws.{keep-member, member-keep}
-use Rattle.lists.specs.KeyedLaws.{member-has, at-member, at-key, member-at, two-by-key}
+use Rattle.lists.specs.KeyedLaws.{member-has, at-member, member-at}
 use Rattle.meaning.specs.Model.{Store, Stack, Model, whole, usedPart, freePart, stackRun, storeName, threadName, stackName, noSuchStore, noSuchStack, storeOf, contextIn, stackOf, rootOf}
 use Rattle.meaning.specs.Nesting.{Child, Nested, child, inChild, parentIn}
 use Rattle.meaning.specs.Facts.{_Holds_, Sound}
@@ -20,6 +20,7 @@ use Rattle.meaning.specs.Laws.Within.{context-listed}
 use Rattle.laws.specs.ByName.{Listed, ByName, by-name}
 use Rattle.laws.specs.Nesting.{never-in-itself, inner-listed, outer-listed, others-in-root}
 use Rattle.laws.specs.Geometry.{nested-inside, siblings}
+use Rattle.laws.specs.StackCalls.{in-stacks, stack-named, stacks-apart}
 use Rattle.schemas.specs.Memory.{Numbers, _≐_, _apart_, Finite, cells, run-counts, Partial, Plus, one, more}
 use Rattle.schemas.specs.Blocks.{Block}
 use Rattle.schemas.specs.Stores.{Backing, BackingStore}
@@ -161,17 +162,8 @@ module _ (m : Model) (sound : Sound m) where
 
   -- ---- invariants of the stacks
 
-  stack-found : {k : Stack} → k ∈ m .stacks → stackOf (m .stacks) (k .start) ≡ k
+  pub stack-found : {k : Stack} → k ∈ m .stacks → stackOf (m .stacks) (k .start) ≡ k
   stack-found i = member-at stackName noSuchStack (m .stacks) (sound .rule6 .rises) i
-
-  stack-name : (k : ℕ) → stackOf (m .stacks) k .start ≡ k
-  stack-name k = at-key stackName noSuchStack (λ x. refl) (m .stacks) k
-
-  stacks-apart : (i j : ℕ) → has stackName (m .stacks) i ≡ true → has stackName (m .stacks) j ≡ true → i < j
-      → cells (stackRun (stackOf (m .stacks) i)) apart cells (stackRun (stackOf (m .stacks) j))
-  stacks-apart i j h k l =
-      two-by-key stackName _ (m .stacks) (sound .rule6 .rises) (sound .rule6 .apart) (at-member stackName noSuchStack (m .stacks) i h)
-      (at-member stackName noSuchStack (m .stacks) j k) (omega (arith, stack-name i, stack-name j))
 
   -- StackMemoryManager
   pub stack-invariant : StackMemoryManager (stacksOf m)
@@ -187,13 +179,11 @@ module _ (m : Model) (sound : Sound m) where
             };
         parts =
             record {
-              disjoint = λ i j h k n. elim (decLt i j) [
-                | yes l ↦ stacks-apart i j h k l
-                | no l ↦ λ a x y. stacks-apart j i k h (omega arith) a y x
-              ];
+              disjoint = λ i j h k n.
+                  stacks-apart m sound (in-stacks (m .stacks) i h) (in-stacks (m .stacks) j k) (λ e. n (sym (stack-named (m .stacks) i) ∙ e ∙ stack-named (m .stacks) j));
               union = λ a. (
                 λ x. (x .0 .start, member-has stackName (m .stacks) (x .1), rw (stack-found (x .1)) (x .2)),
-                λ x. (stackOf (m .stacks) (x .0), at-member stackName noSuchStack (m .stacks) (x .0) (x .1), x .2),
+                λ x. (stackOf (m .stacks) (x .0), in-stacks (m .stacks) (x .0) (x .1), x .2),
               );
             };
       }

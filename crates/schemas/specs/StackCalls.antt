@@ -21,11 +21,12 @@ use Rattle.meaning.specs.Facts.{_ApartFrom_, Sound}
 use Rattle.meaning.specs.Changes.{shortened, joined, withStacks}
 use Rattle.meaning.specs.Calls.{makeStack, destroyStack, checks, change, allChecks, step}
 use Rattle.meaning.specs.Laws.Step.{accepted-exact, step-accepted}
+use Rattle.laws.specs.StackCalls.{touching, in-stacks, stack-named, stacks-apart, new-name}
 use Rattle.laws.specs.EachCall.{change-sound}
 use Rattle.schemas.specs.Memory.{_≐_, _apart_, _∪_, _∖_, ⟨_⟩, Contiguous, cells, run-contiguous, contiguous-run, _⊕_⟼_, _⩤_, picked}
 use Rattle.schemas.specs.Reports.{MMReport, number, number-names, number-most}
 use Rattle.schemas.specs.Stacks.{SameStacks, StackCreate, StackDelete, RStackCreate, RStackDelete}
-use Rattle.schemas.specs.Reading.{InStack, stacksOf, stack-invariant}
+use Rattle.schemas.specs.Reading.{InStack, stacksOf, stack-found, stack-invariant}
 use Rattle.schemas.specs.Steps.{checked, unchecked, told-sound, stacks-stay}
 
 -- ---- runs
@@ -46,13 +47,7 @@ shortened-cells area r n l a = elim (tested (eqb n (r .length))) [
 joined-cells : (r k : Run) → touchesNoEnd r k ≡ false → cells (joined r k) ≐ (cells r ∪ cells k)
 joined-cells r k h a = elim (tested (eqb (r .length) 0)) [
   | inl e ↦ let q = eqb-true (r .length) 0 e in rw e (λ i. inr i, λ i. ⊎-elim (λ j. absurd (omega arith)) (λ j. j) i)
-  | inr e ↦
-      let t : (eqb (end k) (r .start) ≡ false) → (eqb (end r) (k .start) ≡ true) = unless-iff (eqb (end k) (r .start)) _ .0 (not-false _ (rw e at h)) in
-      let touch : (end k ≡ r .start) ⊎ (end r ≡ k .start) = elim (tested (eqb (end k) (r .start))) [
-        | inl f ↦ inl (eqb-true (end k) (r .start) f)
-        | inr f ↦ inr (eqb-true (end r) (k .start) (t f))
-      ] in
-      rw e (⊎-elim
+  | inr e ↦ rw e (⊎-elim
       (λ q. (
         λ i. elim (decLt a (r .start)) [
           | yes b ↦ inr (omega arith)
@@ -67,7 +62,7 @@ joined-cells r k h a = elim (tested (eqb (r .length) 0)) [
         ],
         λ u. ⊎-elim (λ j. omega arith) (λ j. omega arith) u,
       ))
-      touch)
+      (touching r k h e))
 ]
 
 -- a run and one behind it, with a gap between them, are not contiguous
@@ -113,13 +108,6 @@ module _ (m : Model) (sound : Sound m) where
     abbrev made : Model
     made = withStacks m (insert stackName new ks) (shortened (m .stackArea) (m .freeRun) (stackTaken n))
 
-    new-name : has stackName ks (new .start) ≡ false
-    new-name =
-        false-of _
-        (λ h. let x = has-member stackName ks (new .start) h in
-        let l = sound .rule6 .least (x .0) (x .1) in
-        sound .rule6 .taken (x .0) (x .1) (new .start) (omega (arith, x .2)) (omega arith))
-
     made-stacks : SameStacks (stacksOf m .stacks ⊕ new .start ⟼ stackRun new) (stacksOf made .stacks)
     made-stacks = (
       λ k. (
@@ -130,7 +118,7 @@ module _ (m : Model) (sound : Sound m) where
         ],
       ),
       λ k u. picked (λ r. cells (stackRun (stackOf (insert stackName new ks) k)) ≐ cells r) k (new .start)
-          (λ e. rw (e, at-insert-new stackName noSuchStack new ks new-name) (λ a. (λ i. i, λ i. i)))
+          (λ e. rw (e, at-insert-new stackName noSuchStack new ks (new-name m sound n room)) (λ a. (λ i. i, λ i. i)))
           (λ d. rw (at-insert-old stackName noSuchStack new ks k (λ e. d (sym e))) (λ a. (λ i. i, λ i. i))),
     )
 
@@ -140,7 +128,7 @@ module _ (m : Model) (sound : Sound m) where
         let j = stack-invariant made after in
         record {
           changes = record { before = i; after = j };
-          new = λ h. never _ h new-name;
+          new = λ h. never _ h (new-name m sound n room);
           allocated = stackRun new;
           allocates =
               inl (
@@ -168,23 +156,16 @@ module _ (m : Model) (sound : Sound m) where
     abbrev left : Model
     left = withStacks m (remove stackName k ks) (joined (m .freeRun) (stackRun gone))
 
-    gone-in : gone ∈ ks
-    gone-in = at-member stackName noSuchStack ks k listed
-
     -- a stack of another name shares no address with the one that goes
     others-apart : (x : Stack) → x ∈ ks → (x .start ≡ k → ⊥) → cells (stackRun x) apart cells (stackRun gone)
-    others-apart x i d a h j =
-        let found : stackOf ks (x .start) ≡ x = member-at stackName noSuchStack ks (sound .rule6 .rises) i in
-        stack-invariant m sound .parts .disjoint (x .start) k (member-has stackName ks i) listed d a (rw found h) j
+    others-apart x i d = stacks-apart m sound i (in-stacks ks k listed) (λ e. d (e ∙ stack-named ks k))
 
     left-used : InStack (remove stackName k ks) ≐ (InStack ks ∖ cells (stackRun gone))
     left-used a = (
       λ x. let o = keep-member (λ y. not (eqb (y .start) k)) ks (x .1) in
           ((x .0, o .0, x .2), others-apart (x .0) (o .0) (eqb-false _ k (not-iff _ .0 (o .1))) a (x .2)),
       λ u. let x = u .0 in
-          let other : x .0 .start ≡ k → ⊥ = λ e.
-          let found : stackOf ks (x .0 .start) ≡ x .0 = member-at stackName noSuchStack ks (sound .rule6 .rises) (x .1) in
-          u .1 (rw (← found, e) at (x .2)) in
+          let other : x .0 .start ≡ k → ⊥ = λ e. u .1 (rw (← stack-found m sound (x .1), e) at (x .2)) in
           (x .0, member-keep (λ y. not (eqb (y .start) k)) ks (x .1) (not-iff _ .1 (ne-eqb _ k other)), x .2),
     )
 
@@ -254,7 +235,7 @@ destroy-stack-meets m bs k r h =
     (λ x. inl (record { stays = stacks-stay (o .0) (a .0); missing = λ i. never _ i (not-iff _ .0 (x .0)); told = number-names (x .1) }))
     (λ x. let listed = not-false-iff _ .0 (x .0) in
     inr (⊎-elim
-    (λ y. let i = gone-in m (o .0) k listed in
+    (λ y. let i = in-stacks (m .stacks) k listed in
     let least = o .0 .rule6 .least (stackOf (m .stacks) k) i in
     record {
       stays = stacks-stay (o .0) (a .0);
