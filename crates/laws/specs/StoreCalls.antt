@@ -1,6 +1,7 @@
 -- Calls 8 to 11 keep a model sound: rules 2 to 4 by name, and every context still listed. Assumes nothing.
 use mathlib.Core.Bool.{Bool, true, false, not}
 use mathlib.Core.List.{List}
+use mathlib.Core.Logic.{inl}
 use mathlib.Core.Path.{_≡_, refl, sym, _∙_, ap}
 use Prim.Native.Nat.{ℕ, _+_, _-_, _<_, _≤_}
 use native.Mathlib.Decide.{ℕ-discrete}
@@ -9,7 +10,7 @@ use lib.Dec.{eqb}
 use borrow.Author.Tests.{eq-eqb, ne-eqb}
 use Rattle.lists.specs.Lists.{_∈_, keep, rest}
 use Rattle.lists.specs.Keyed.{insert}
-use Rattle.lists.specs.Tests.{never, false-of, and-iff, unless-iff, not-iff}
+use Rattle.lists.specs.Tests.{never, false-of, and-iff, not-iff}
 use Rattle.lists.specs.ListLaws.{member-any}
 use Rattle.lists.specs.ListChanges.{two-keep}
 use Rattle.lists.specs.KeyedLaws.{has-iff}
@@ -75,8 +76,7 @@ module _ (m : Model) (sound : Sound m) where
         let t = grown-set .totals k i in
         omega arith))
         sound
-        (λ t i. add .names (t .context)
-        ∙ unless-iff (eqb (new .start) (t .context)) (listed grown (t .context)) .1 (λ _. grown-set .names (t .context) ∙ placed t i))
+        (λ t i. add .names (t .context) .1 (inl (grown-set .names (t .context) ∙ placed t i)))
 
   -- ---- call 10
 

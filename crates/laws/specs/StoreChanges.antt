@@ -1,14 +1,14 @@
 -- The four changes of a list of stores, said by name: what stays of every listed store and what becomes of it; and that the list functions which the calls use are
 -- such changes. Assumes nothing.
-use mathlib.Core.Bool.{Bool, true, false, _&&_, _||_}
+use mathlib.Core.Bool.{Bool, true, false, _&&_}
 use mathlib.Core.List.{List}
+use mathlib.Core.Logic.{_↔_, _⊎_}
 use mathlib.Core.Path.{_≡_, refl, sym, _∙_, ap}
 use Prim.Native.Nat.{ℕ}
-use lib.Dec.{eqb}
 use borrow.Author.Tests.{eq-eqb, ne-eqb}
 use Rattle.lists.specs.Lists.{keep}
 use Rattle.lists.specs.Keyed.{insert}
-use Rattle.lists.specs.KeyedChanges.{has-insert, at-insert-new, at-insert-old, has-map, at-map, has-keep, at-keep}
+use Rattle.lists.specs.KeyedChanges.{has-insert-iff, at-insert-new, at-insert-old, has-map, at-map, has-keep, at-keep}
 use Rattle.meaning.specs.Model.{Store, storeName, listed, noSuchStore, storeOf}
 use Rattle.meaning.specs.Nesting.{parentIn}
 use Rattle.meaning.specs.Changes.{withUsed, withTotal}
@@ -75,11 +75,12 @@ kept q ss = record { names = has-keep storeName q ss; lines = at-keep storeName 
 
 -- ---- one store more
 
+-- the stores listed before stay as they are, and the new one is listed
 pub record Added (new : Store) (ss after : List Store) : Type 0 where
-  pub names : (k : ℕ) → listed after k ≡ (eqb (new .start) k || listed ss k)
+  pub names : (k : ℕ) → Listed after k ↔ (Listed ss k ⊎ (k ≡ new .start))
   pub here : storeOf after (new .start) ≡ new
   pub elsewhere : (k : ℕ) → (new .start ≡ k → ⊥) → storeOf after k ≡ storeOf ss k
 
 pub added : (new : Store) (ss : List Store) → listed ss (new .start) ≡ false → Added new ss (insert storeName new ss)
 added new ss h =
-    record { names = has-insert storeName new ss; here = at-insert-new storeName noSuchStore new ss h; elsewhere = at-insert-old storeName noSuchStore new ss }
+    record { names = has-insert-iff storeName new ss; here = at-insert-new storeName noSuchStore new ss h; elsewhere = at-insert-old storeName noSuchStore new ss }

@@ -6,9 +6,7 @@ use mathlib.Core.Path.{_≡_, sym, _∙_, ap}
 use Prim.Native.Nat.{ℕ, _+_, _<_, _≤_}
 use native.Mathlib.Decide.{ℕ-discrete}
 use native.Mathlib.Omega.{arith}
-use lib.Dec.{eqb}
-use borrow.Author.Tests.{eqb-true}
-use Rattle.lists.specs.Tests.{tested, never, and-iff, unless-iff}
+use Rattle.lists.specs.Tests.{never, and-iff}
 use Rattle.names.specs.Overhead.{storeOverhead}
 use Rattle.meaning.specs.Model.{Run, Store, listed, storeOf}
 use Rattle.meaning.specs.Nesting.{parentIn}
@@ -160,14 +158,7 @@ module _ (area : Run) (ss after : List Store) (by : ByName area ss) where
     old k h = g .elsewhere k (λ e. never (listed ss k) h (rw e at fresh))
 
     old-listed : (k : ℕ) → Listed ss k → Listed after k
-    old-listed k h = g .names k ∙ unless-iff (eqb (new .start) k) (listed ss k) .1 (λ _. h)
-
-    -- a store listed after is the new one, or was listed before
-    which : (k : ℕ) → Listed after k → (new .start ≡ k) ⊎ Listed ss k
-    which k h = elim (tested (eqb (new .start) k)) [
-      | inl e ↦ inl (eqb-true (new .start) k e)
-      | inr e ↦ inr (unless-iff (eqb (new .start) k) (listed ss k) .0 (sym (g .names k) ∙ h) e)
-    ]
+    old-listed k h = g .names k .1 (inl h)
 
     new-hung : Hung after (new .start)
     new-hung =
@@ -184,17 +175,17 @@ module _ (area : Run) (ss after : List Store) (by : ByName area ss) where
         let u = ap (usedIn after) p ∙ ap (λ s. s .used) (old (parentIn ss k) (o .parent)) in
         record { parent = ap (listed after) p ∙ old-listed (parentIn ss k) (o .parent); least = omega arith; low = omega arith; high = omega arith }
 
-    added-apart : (a b : ℕ) → (new .start ≡ a) ⊎ Listed ss a → (new .start ≡ b) ⊎ Listed ss b → area .start < a
+    added-apart : (a b : ℕ) → Listed ss a ⊎ (a ≡ new .start) → Listed ss b ⊎ (b ≡ new .start) → area .start < a
         → parentIn after a ≡ parentIn after b → a < b → a + totalIn after a ≤ b
-    added-apart a b (inl e) (inl f) l q k = absurd (omega arith)
-    added-apart a b (inl e) (inr i) l q k =
-        let z = behind b i (omega arith) (sym (ap (λ s. s .parent) (old b i)) ∙ sym q ∙ sym (ap (parentIn after) e) ∙ ap (λ s. s .parent) (g .here)) in
+    added-apart a b (inr e) (inr f) l q k = absurd (omega arith)
+    added-apart a b (inr e) (inl i) l q k =
+        let z = behind b i (omega arith) (sym (ap (λ s. s .parent) (old b i)) ∙ sym q ∙ ap (parentIn after) e ∙ ap (λ s. s .parent) (g .here)) in
         absurd (omega arith)
-    added-apart a b (inr h) (inl f) l q k =
-        let z = behind a h l (sym (ap (λ s. s .parent) (old a h)) ∙ q ∙ sym (ap (parentIn after) f) ∙ ap (λ s. s .parent) (g .here)) in
+    added-apart a b (inl h) (inr f) l q k =
+        let z = behind a h l (sym (ap (λ s. s .parent) (old a h)) ∙ q ∙ ap (parentIn after) f ∙ ap (λ s. s .parent) (g .here)) in
         let t = ap (λ s. s .total) (old a h) in
         omega arith
-    added-apart a b (inr h) (inr i) l q k =
+    added-apart a b (inl h) (inl i) l q k =
         let z = by .apart a b h i l (sym (ap (λ s. s .parent) (old a h)) ∙ q ∙ ap (λ s. s .parent) (old b i)) k in
         let t = ap (λ s. s .total) (old a h) in
         omega arith
@@ -205,11 +196,11 @@ module _ (area : Run) (ss after : List Store) (by : ByName area ss) where
           root = old-listed (area .start) (by .root);
           extent = ap (λ s. s .total) (old (area .start) (by .root)) ∙ by .extent;
           itself = ap (λ s. s .parent) (old (area .start) (by .root)) ∙ by .itself;
-          lowest = λ k h. let p = by .lowest (new .parent) there in ⊎-elim (λ e. omega arith) (by .lowest k) (which k h);
-          others = λ k h l. ⊎-elim (λ e. rw (← e) new-hung) (λ i. old-hung k i l) (which k h);
+          lowest = λ k h. let p = by .lowest (new .parent) there in ⊎-elim (by .lowest k) (λ e. omega arith) (g .names k .0 h);
+          others = λ k h l. ⊎-elim (λ i. old-hung k i l) (λ e. rw e new-hung) (g .names k .0 h);
           fits = λ k h. ⊎-elim
-              (λ e. omega (arith, fit, ap (usedIn after) e, ap (totalIn after) e, ap (λ s. s .used) (g .here), ap (λ s. s .total) (g .here)))
               (λ i. let f = by .fits k i in omega (arith, ap (λ s. s .used) (old k i), ap (λ s. s .total) (old k i)))
-              (which k h);
-          apart = λ a b h i l q k. added-apart a b (which a h) (which b i) l q k;
+              (λ e. omega (arith, fit, ap (usedIn after) e, ap (totalIn after) e, ap (λ s. s .used) (g .here), ap (λ s. s .total) (g .here)))
+              (g .names k .0 h);
+          apart = λ a b h i. added-apart a b (g .names a .0 h) (g .names b .0 i);
         }

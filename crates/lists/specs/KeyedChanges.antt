@@ -1,17 +1,17 @@
 -- What inserting, changing and keeping elements does to a list with keys: which keys it has, what they find, and that it rises. Assumes nothing.
 use mathlib.Core.Bool.{Bool, true, false, not, _&&_, _||_}
 use mathlib.Core.List.{List, [], _∷_, map, List·Memᴰ·head as here, List·Memᴰ·tail as there, List·Memᴰ·not-nil as nowhere, List·Memᴰ·cases-cons as cases-cons}
-use mathlib.Core.Logic.{_⊎_, inl, inr, ⊎-elim}
+use mathlib.Core.Logic.{_↔_, _⊎_, inl, inr, ⊎-elim}
 use mathlib.Core.Path.{_≡_, refl, sym, _∙_, ap}
 use Prim.Native.Nat.{ℕ, _+_, _<_, _≤_}
 use native.Mathlib.Decide.{ℕ-discrete}
 use native.Mathlib.Omega.{arith}
 use lib.Dec.{ltb, eqb}
 use lib.ListN.{length}
-use borrow.Author.Tests.{ltb-true, ltb-false, eqb-true, eq-eqb, ne-eqb}
+use borrow.Author.Tests.{ltb-true, ltb-false, eqb-true, eqb-false, eq-eqb, ne-eqb}
 use Rattle.lists.specs.Lists.{_∈_, AllTwo, keep, sum}
 use Rattle.lists.specs.Keyed.{has, at, insert, remove, Rising}
-use Rattle.lists.specs.Tests.{tested, never}
+use Rattle.lists.specs.Tests.{tested, never, and-iff, unless-iff, not-iff}
 use Rattle.lists.specs.KeyedLaws.{member-has}
 use Rattle.lists.specs.ListChanges.{two-map}
 use Rattle.lists.specs.KeepLaws.{keep-all}
@@ -24,6 +24,13 @@ module _ {A : Type 0} (key : A → ℕ) where
   insert-member n (y ∷ l) m = elim (tested (ltb (key n) (key y))) [
     | inl e ↦ cases-cons (rw e at m)
     | inr e ↦ ⊎-elim (λ q. inr (here q)) (λ t. ⊎-elim (λ q. inl q) (λ u. inr (there u)) (insert-member n l t)) (cases-cons (rw e at m))
+  ]
+
+  pub member-insert : (n : A) (l : List A) {x : A} → (x ≡ n) ⊎ (x ∈ l) → x ∈ insert key n l
+  member-insert n [] u = ⊎-elim (λ e. here e) (λ i. there i) u
+  member-insert n (y ∷ l) u = elim (tested (ltb (key n) (key y))) [
+    | inl e ↦ rw e (⊎-elim (λ q. here q) (λ i. there i) u)
+    | inr e ↦ rw e (⊎-elim (λ q. there (member-insert n l (inl q))) (λ i. ⊎-elim (λ q. here q) (λ j. there (member-insert n l (inr j))) (cases-cons i)) u)
   ]
 
   pub insert-length : (n : A) (l : List A) → length (insert key n l) ≡ length l + 1
@@ -52,6 +59,16 @@ module _ {A : Type 0} (key : A → ℕ) where
       | inr f ↦ rw (e, f, has-insert n l k, f)
     ]
   ]
+
+  -- the keys after are those before, and the new one
+  pub has-insert-iff : (n : A) (l : List A) (k : ℕ) → (has key (insert key n l) k ≡ true) ↔ ((has key l k ≡ true) ⊎ (k ≡ key n))
+  has-insert-iff n l k = (
+    λ h. elim (tested (eqb (key n) k)) [
+      | inl e ↦ inr (sym (eqb-true (key n) k e))
+      | inr e ↦ inl (unless-iff (eqb (key n) k) (has key l k) .0 (sym (has-insert n l k) ∙ h) e)
+    ],
+    λ u. has-insert n l k ∙ unless-iff (eqb (key n) k) (has key l k) .1 (λ d. ⊎-elim (λ h. h) (λ e. absurd (eqb-false (key n) k d (sym e))) u),
+  )
 
   pub at-insert-new : (none : ℕ → A) (n : A) (l : List A) → has key l (key n) ≡ false → at key none (insert key n l) (key n) ≡ n
   at-insert-new none n [] h = rw (eq-eqb (key n) (key n) refl)
@@ -159,6 +176,17 @@ module _ {A : Type 0} (key : A → ℕ) where
     ]
 
   -- ---- remove one
+
+  -- the keys after are those before but the one removed
+  pub has-remove-iff : (j : ℕ) (l : List A) (k : ℕ) → (has key (remove key j l) k ≡ true) ↔ ((has key l k ≡ true) × (k ≡ j → ⊥))
+  has-remove-iff j l k =
+      let kept = has-keep (λ x. not (eqb x j)) l k in (
+        λ h. let b = and-iff (not (eqb k j)) (has key l k) .0 (sym kept ∙ h) in (b .1, eqb-false k j (not-iff _ .0 (b .0))),
+        λ h. kept ∙ and-iff (not (eqb k j)) (has key l k) .1 (not-iff _ .1 (ne-eqb k j (h .1)), h .0),
+      )
+
+  pub at-remove : (none : ℕ → A) (j : ℕ) (l : List A) (k : ℕ) → (k ≡ j → ⊥) → at key none (remove key j l) k ≡ at key none l k
+  at-remove none j l k d = at-keep (λ x. not (eqb x j)) none l k (not-iff _ .1 (ne-eqb k j d))
 
   pub sum-remove : (none : ℕ → A) (f : A → ℕ) (l : List A) (k : ℕ) → Rising key l → has key l k ≡ true
       → f (at key none l k) + sum f (remove key k l) ≡ sum f l

@@ -5,10 +5,9 @@ use mathlib.Core.Logic.{_⊎_, inl, inr, ⊎-elim}
 use mathlib.Core.Path.{_≡_, refl, sym, _∙_, ap}
 use Prim.Native.Nat.{ℕ, _+_, _≤_}
 use native.Mathlib.Omega.{arith}
-use lib.Dec.{eqb}
-use borrow.Author.Tests.{ltb-true, eqb-true, eqb-false}
+use borrow.Author.Tests.{ltb-true}
 use Rattle.lists.specs.Keyed.{insert}
-use Rattle.lists.specs.Tests.{tested, never, unless-iff, not-iff, not-false-iff, reflect}
+use Rattle.lists.specs.Tests.{never, not-iff, not-false-iff, reflect}
 use Rattle.names.specs.Overhead.{storeOverhead, storeTaken}
 use Rattle.meaning.specs.Model.{Store, Model, Bytes, free, storeName, listed, storeOf, contextIn}
 use Rattle.meaning.specs.Nesting.{Child, child, parentIn}
@@ -75,16 +74,13 @@ module _ (m : Model) (sound : Sound m) (c : ℕ) (there : Listed (m .stores) c) 
 
   -- a listed store is the new one or was listed
   old-or-new : (k : ℕ) → Listed ss′ k → Listed ss k ⊎ (k ≡ id)
-  old-or-new k h = elim (tested (eqb id k)) [
-    | inl e ↦ inr (sym (eqb-true id k e))
-    | inr e ↦ inl (sym (g .names k) ∙ unless-iff (eqb id k) _ .0 (sym (a .names k) ∙ h) e)
-  ]
+  old-or-new k h = ⊎-elim (λ l. inl (sym (g .names k) ∙ l)) (λ e. inr e) (a .names k .0 h)
 
   old : (k : ℕ) → Listed ss k → Listed ss′ k
-  old k h = a .names k ∙ unless-iff (eqb id k) _ .1 (λ _. g .names k ∙ h)
+  old k h = a .names k .1 (inl (g .names k ∙ h))
 
   id-there : Listed ss′ id
-  id-there = a .names id ∙ unless-iff (eqb id id) _ .1 (λ e. absurd (eqb-false id id e refl))
+  id-there = a .names id .1 (inr refl)
 
   old-parent : (k : ℕ) → Listed ss k → parentIn ss′ k ≡ parentIn ss k
   old-parent k h = ap (λ s. s .parent) (a .elsewhere k (unlisted h)) ∙ g .parents k h

@@ -1,19 +1,18 @@
 -- Calls 12 and 13 meet 000's schemas: make stack, destroy stack. Assumes nothing.
 use mathlib.Core.Bool.{true, false, not}
-use mathlib.Core.List.{List, [], _∷_, List·Memᴰ·head as here, List·Memᴰ·tail as there, List·Memᴰ·cases-cons as cases-cons}
-use mathlib.Core.Logic.{_⊎_, inl, inr, ⊎-elim}
+use mathlib.Core.List.{List}
+use mathlib.Core.Logic.{Iff·symm, _⊎_, inl, inr, ⊎-elim}
 use mathlib.Core.Path.{_≡_, refl, sym, _∙_, ap}
 use Prim.Native.Nat.{ℕ, _+_, _<_, _≤_}
 use native.Mathlib.Decide.{decLt}
 use native.Mathlib.Omega.{arith}
-use lib.Dec.{ltb, eqb}
-use borrow.Author.Tests.{ltb-true, eqb-true, eqb-false, ne-eqb, not-false}
+use lib.Dec.{eqb}
+use borrow.Author.Tests.{ltb-true, eqb-true, eqb-false, ne-eqb}
 use Rattle.lists.specs.Lists.{_∈_}
 use Rattle.lists.specs.Keyed.{has, insert, remove}
-use Rattle.lists.specs.Tests.{tested, never, false-of, and-iff, unless-iff, not-iff, not-false-iff, reflect}
+use Rattle.lists.specs.Tests.{tested, never, and-iff, not-iff, not-false-iff, reflect}
 use Rattle.lists.specs.ListLaws.{keep-member, member-keep}
-use Rattle.lists.specs.KeyedLaws.{has-member, member-has, at-member, member-at}
-use Rattle.lists.specs.KeyedChanges.{insert-member, has-insert, at-insert-new, at-insert-old, has-keep, at-keep}
+use Rattle.lists.specs.KeyedChanges.{insert-member, member-insert, has-insert-iff, at-insert-new, at-insert-old, has-remove-iff, at-remove}
 use Rattle.names.specs.Overhead.{stackTaken}
 use Rattle.meaning.specs.Model.{Run, Stack, Model, Bytes, end, stackRun, stackName, noSuchStack, stackOf}
 use Rattle.meaning.specs.Reports.{touchesNoEnd}
@@ -90,13 +89,6 @@ not-joined r k h p n c =
 
 -- ---- the stacks after each call
 
-member-insert : (n : Stack) (l : List Stack) {x : Stack} → (x ≡ n) ⊎ (x ∈ l) → x ∈ insert stackName n l
-member-insert n [] u = ⊎-elim (λ e. here e) (λ i. there i) u
-member-insert n (y ∷ l) u = elim (tested (ltb (n .start) (y .start))) [
-  | inl e ↦ rw e (⊎-elim (λ q. here q) (λ i. there i) u)
-  | inr e ↦ rw e (⊎-elim (λ q. there (member-insert n l (inl q))) (λ i. ⊎-elim (λ q. here q) (λ j. there (member-insert n l (inr j))) (cases-cons i)) u)
-]
-
 module _ (m : Model) (sound : Sound m) where
   abbrev ks : List Stack
   ks = m .stacks
@@ -110,13 +102,7 @@ module _ (m : Model) (sound : Sound m) where
 
     made-stacks : SameStacks (stacksOf m .stacks ⊕ new .start ⟼ stackRun new) (stacksOf made .stacks)
     made-stacks = (
-      λ k. (
-        λ u. has-insert stackName new ks k ∙ unless-iff (eqb (new .start) k) _ .1 (λ d. ⊎-elim (λ l. l) (λ e. absurd (eqb-false (new .start) k d (sym e))) u),
-        λ l. elim (tested (eqb (new .start) k)) [
-          | inl e ↦ inr (sym (eqb-true (new .start) k e))
-          | inr e ↦ inl (unless-iff (eqb (new .start) k) _ .0 (sym (has-insert stackName new ks k) ∙ l) e)
-        ],
-      ),
+      λ k. Iff·symm (has-insert-iff stackName new ks k),
       λ k u. picked (λ r. cells (stackRun (stackOf (insert stackName new ks) k)) ≐ cells r) k (new .start)
           (λ e. rw (e, at-insert-new stackName noSuchStack new ks (new-name m sound n room)) (λ a. (λ i. i, λ i. i)))
           (λ d. rw (at-insert-old stackName noSuchStack new ks k (λ e. d (sym e))) (λ a. (λ i. i, λ i. i))),
@@ -139,7 +125,7 @@ module _ (m : Model) (sound : Sound m) where
                   taken = λ a h. omega arith;
                   used = λ a. (
                     λ x. ⊎-elim (λ q. inr (rw q at (x .2))) (λ k. inl (x .0, k, x .2)) (insert-member stackName new ks (x .1)),
-                    λ u. ⊎-elim (λ x. (x .0, member-insert new ks (inr (x .1)), x .2)) (λ h. (new, member-insert new ks (inl refl), h)) u,
+                    λ u. ⊎-elim (λ x. (x .0, member-insert stackName new ks (inr (x .1)), x .2)) (λ h. (new, member-insert stackName new ks (inl refl), h)) u,
                   );
                   free = shortened-cells (m .stackArea) (m .freeRun) (stackTaken n) room;
                   total = λ a. (λ h. h, λ h. h);
@@ -170,15 +156,10 @@ module _ (m : Model) (sound : Sound m) where
     )
 
     left-stacks : SameStacks (⟨ k ⟩ ⩤ stacksOf m .stacks) (stacksOf left .stacks)
-    left-stacks =
-        let other : (j : ℕ) → (j ≡ k → ⊥) → not (eqb j k) ≡ true = λ j d. not-iff _ .1 (ne-eqb j k d) in (
-          λ j. (
-            λ u. has-keep stackName (λ x. not (eqb x k)) ks j ∙ and-iff (not (eqb j k)) _ .1 (other j (u .1), u .0),
-            λ l. let b = and-iff (not (eqb j k)) _ .0 (sym (has-keep stackName (λ x. not (eqb x k)) ks j) ∙ l) in
-                (b .1, eqb-false j k (not-iff _ .0 (b .0))),
-          ),
-          λ j u. rw (at-keep stackName (λ x. not (eqb x k)) noSuchStack ks j (other j (u .1))) (λ a. (λ i. i, λ i. i)),
-        )
+    left-stacks = (
+      λ j. Iff·symm (has-remove-iff stackName k ks j),
+      λ j u. rw (at-remove stackName noSuchStack k ks j (u .1)) (λ a. (λ i. i, λ i. i)),
+    )
 
     deleted : touchesNoEnd (m .freeRun) (stackRun gone) ≡ false → Sound left → StackDelete (stacksOf m) (stacksOf left) k
     deleted touches after =
