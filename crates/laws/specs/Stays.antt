@@ -1,14 +1,13 @@
 -- What stays: a call changes only the lines that it touches. Assumes nothing.
-use mathlib.Core.Bool.{Bool, true, false, not}
+use mathlib.Core.Bool.{Bool, true, false}
 use mathlib.Core.List.{List, map}
 use mathlib.Core.Logic.{inl, inr, ⊎-elim}
 use mathlib.Core.Path.{_≡_, refl, sym, _∙_, ap}
 use Prim.Native.Nat.{ℕ, _+_}
 use native.Mathlib.Omega.{arith}
 use borrow.Author.Tests.{eqb-false, ne-eqb}
-use Rattle.lists.specs.Lists.{keep}
 use Rattle.lists.specs.Keyed.{has, at, insert, remove}
-use Rattle.lists.specs.Tests.{tested, never, same-test, and-iff, not-iff, reflect}
+use Rattle.lists.specs.Tests.{tested, never, same-test, reflect}
 use Rattle.lists.specs.KeyedChanges.{has-insert, at-insert-old, has-map, at-map-same, has-remove-iff, at-remove}
 use Rattle.names.specs.Overhead.{storeTaken}
 use Rattle.meaning.specs.Model.{Store, Thread, Stack, Run, Model, Bytes, storeName, threadName, stackName, listed, noSuchThread, noSuchStack, contextIn}
@@ -21,7 +20,7 @@ use Rattle.meaning.specs.Laws.Within.{context-listed}
 use Rattle.laws.specs.AnyStep.{after-step}
 use Rattle.laws.specs.ByName.{Listed, usedIn}
 use Rattle.laws.specs.Geometry.{none-at-free}
-use Rattle.laws.specs.StoreChanges.{used-set, resized, kept, added}
+use Rattle.laws.specs.StoreChanges.{used-set, resized, after-clear, added}
 use Rattle.laws.specs.Touched.{nothing, just, storeLines, threadLine, stackLine, Touched, touched, SameLine, StoresStay, Stays}
 
 stores-same : (t : Touched) (ss : List Store) → StoresStay t ss ss
@@ -111,17 +110,13 @@ make-stays ss c u new fresh =
 
 clear-stays : (ss : List Store) (c : ℕ) → StoresStay (storeLines (just c) nothing (λ k. nested ss k c) nothing) ss (cleared c ss)
 clear-stays ss c =
-    let left = keep (λ s. not (nested ss (s .start) c)) ss in
-    let a = kept (λ k. not (nested ss k c)) ss in
-    let g = used-set c 0 left in
-    let stays : (k : ℕ) → nested ss k c ≡ false → not (nested ss k c) ≡ true = λ k e. not-iff (nested ss k c) .1 e in
-    let there : (k : ℕ) → Listed ss k → nested ss k c ≡ false → Listed left k = λ k h e. a .names k ∙ and-iff (not (nested ss k c)) (listed ss k) .1 (stays k e, h) in
+    let g = after-clear c ss in
     record {
-      stay = λ k h e. g .names k ∙ there k h e;
-      come = λ k h _. and-iff (not (nested ss k c)) (listed ss k) .0 (sym (a .names k) ∙ sym (g .names k) ∙ h) .1;
-      parents = λ k h e. g .parents k (there k h e) ∙ ap (λ s. s .parent) (a .lines k (stays k e));
-      totals = λ k h e _. g .totals k (there k h e) ∙ ap (λ s. s .total) (a .lines k (stays k e));
-      useds = λ k h e f. g .elsewhere k (there k h e) (eqb-false k c f) ∙ ap (λ s. s .used) (a .lines k (stays k e));
+      stay = λ k h e. g .names k .1 (h, e);
+      come = λ k h _. g .names k .0 h .0;
+      parents = λ k h e. g .parents k e;
+      totals = λ k h e _. g .totals k e;
+      useds = λ k h e f. ap (λ s. s .used) (g .elsewhere k e (eqb-false k c f));
     }
 
 -- ---- call by call
