@@ -23,7 +23,7 @@ use Rattle.meaning.specs.Facts.{Sound}
 use Rattle.meaning.specs.Changes.{withUsed, withTotal, cleared, withStores}
 use Rattle.meaning.specs.Laws.Nested.{named, link-child, nested-agrees}
 use Rattle.laws.specs.ByName.{Listed, totalIn, usedIn, ByName, by-name, root-start, other-line, named-sound}
-use Rattle.laws.specs.Nesting.{nested-transitive, nested-below, never-in-itself}
+use Rattle.laws.specs.Nesting.{nested-transitive, nested-below, never-in-itself, not-nested}
 use Rattle.laws.specs.Geometry.{none-at-free}
 use Rattle.laws.specs.StoreChanges.{UsedSet, used-set, resized, notIn, after-clear, added}
 use Rattle.laws.specs.StoreRules.{used-set-by-name, cleared-by-name, resized-by-name, added-by-name}
@@ -81,23 +81,20 @@ module _ (m : Model) (sound : Sound m) where
   -- ---- call 10
 
   module _ (c : ℕ) (there : Listed ss c) where
-    out-of : {k : ℕ} → (Nested ss k c → ⊥) → nested ss k c ≡ false
-    out-of {k} out = false-of _ (λ e. out (nested-agrees m sound k c .0 e))
-
     -- of a store that stays the parent stays, and is not c
     parent-stays : (k : ℕ) → Listed ss k → m .storeArea .start < k → nested ss k c ≡ false → (nested ss (parentIn ss k) c ≡ false) × (parentIn ss k ≡ c → ⊥)
     parent-stays k h l e =
         let o = by .others k h l in
         let d : Child ss k (parentIn ss k) = link-child m sound refl (omega arith) in
         let out : Nested ss k c → ⊥ = λ n. never (nested ss k c) (nested-agrees m sound k c .1 n) e in
-        (out-of (λ n. out (nested-transitive ss (child d) n)), λ q. out (child (rw q at d)))
+        (not-nested m sound (λ n. out (nested-transitive ss (child d) n)), λ q. out (child (rw q at d)))
 
     pub clear-sound : inUse m c ≡ false → Sound (withStores m (cleared c ss))
     clear-sound idle =
         let g = after-clear c ss in
         named-sound m (cleared c ss) (rising-map storeName _ (λ s. refl) (notIn c ss) (two-keep _ _ ss (sound .rule3 .rises)))
-        (cleared-by-name (m .storeArea) ss (cleared c ss) by c g there (out-of (never-in-itself m sound))
-        (out-of (λ n. let l = nested-below m sound n in let low = by .lowest c there in omega arith))
+        (cleared-by-name (m .storeArea) ss (cleared c ss) by c g there (not-nested m sound (never-in-itself m sound))
+        (not-nested m sound (λ n. let l = nested-below m sound n in let low = by .lowest c there in omega arith))
         parent-stays)
         sound
         (λ t i. g .names (t .context) .1 (placed t i, false-of _ (λ e. never (inUse m c) (member-any _ (m .threads) i e) idle)))

@@ -13,8 +13,9 @@ use Rattle.lists.specs.Lists.{_∈_}
 use Rattle.lists.specs.Keyed.{has, rising, Rising}
 use Rattle.lists.specs.KeyedLaws.{member-has, rising-iff}
 use Rattle.lists.specs.Tests.{tested}
-use Rattle.lines.specs.Shape.{Shape, live, live-full, live-at, keyAt}
+use Rattle.lines.specs.Shape.{Shape, live, live-full, live-at}
 use Rattle.lines.specs.Search.{place, place-most, has-place}
+use Rattle.lines.specs.Rising.{keyAt}
 use Rattle.lines.specs.Lookup.{lines-read, lines-count}
 
 module _ {A : Type 0} where

@@ -4,10 +4,14 @@ use mathlib.Core.List.{List}
 use mathlib.Core.Path.{_≡_, sym, _∙_, ap}
 use Prim.Native.Nat.{ℕ, _+_, _-_, _≤_, _<_}
 use native.Mathlib.Omega.{arith}
-use lib.ListN.{length, drop}
+use lib.ListN.{length, drop, getD}
 use borrow.Author.Tests.{lt-ltb, le-ltb}
 use Rattle.lists.specs.Keyed.{risingFrom, rising}
-use Rattle.lines.specs.Shape.{Shape, live, keyAt, from-here, from-end, first-line, first-none}
+use Rattle.lines.specs.Shape.{Shape, live, from-here, from-end, first-line, first-none}
+
+-- the key of the line at i
+abbrev pub keyAt : {A B : Type 0} → Shape A B → (B → ℕ) → List A → ℕ → ℕ
+keyAt σ key ls i = key (σ .view (getD ls i (σ .zeros)))
 
 module _ {A B : Type 0} (σ : Shape A B) (key : B → ℕ) (n : ℕ) (ls : List A) where
   -- the keys rise as far as the line before i: they all rise if they do so from there

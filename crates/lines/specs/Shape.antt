@@ -1,4 +1,4 @@
--- A list kept in an array: a count and as many lines as the array has, those past the count zeros. What it reads as, and how a list is written so.
+-- A list kept in an array: a count and as many lines as the array has, those past the count zeros. What it reads as, how a list is written so, and its lines one by one.
 -- Document 01, rule 8: "lines past them hold zeros. At a higher count the other rules read all lines there are." Assumes nothing.
 use mathlib.Core.Bool.{Bool, true}
 use mathlib.Core.List.{List, [], _∷_, _++_, map}
@@ -23,19 +23,6 @@ pub record Shape (A B : Type 0) : Type 0 where
   pub isZeros : A → Bool
   pub isZeros-true : (a : A) → isZeros a ≡ true → a ≡ zeros
   pub limit : ℕ
-
--- an array of structs is known as a mapped list; it has as many lines
-pub unmapped : {X Y : Type 0} (f : X → Y) (l : List X) (n : ℕ) → length (map f l) ≡ n → length l ≡ n
-unmapped f l n e = sym (length-map l f) ∙ e
-
--- rest is drop 1
-pub rest-drop : {A : Type 0} (l : List A) → rest l ≡ drop 1 l
-rest-drop [] = refl
-rest-drop (x ∷ l) = refl
-
-all-replicate : {A : Type 0} (p : A → Bool) (a : A) → p a ≡ true → (k : ℕ) → all p (replicate k a) ≡ true
-all-replicate p a e zero = refl
-all-replicate p a e (suc k) = rw e (all-replicate p a e k)
 
 module _ {A B : Type 0} (σ : Shape A B) where
   -- the list that the first n lines mean, all lines where there are fewer
@@ -71,12 +58,16 @@ module _ {A B : Type 0} (σ : Shape A B) where
   unfolding live pad
   live-pad xs = ap (map (σ .view)) (take-at (map (σ .back) xs) _ (length xs) (length-map xs (σ .back))) ∙ unmap xs
 
+  zeros-pass : σ .isZeros (σ .zeros) ≡ true → (k : ℕ) → all (σ .isZeros) (replicate k (σ .zeros)) ≡ true
+  zeros-pass e zero = refl
+  zeros-pass e (suc k) = rw e (zeros-pass e k)
+
   -- past a list that is written stand zeros
   pub blank-past : σ .isZeros (σ .zeros) ≡ true → (xs : List B) → blank (length xs) (pad xs) ≡ true
   unfolding blank pad
   blank-past e xs =
       ap (all (σ .isZeros)) (drop-at (map (σ .back) xs) (replicate (σ .limit - length xs) (σ .zeros)) (length xs) (length-map xs (σ .back)))
-      ∙ all-replicate (σ .isZeros) (σ .zeros) e (σ .limit - length xs)
+      ∙ zeros-pass e (σ .limit - length xs)
 
   remap : (ls : List A) → map (σ .back) (map (σ .view) ls) ≡ ls
   remap [] = refl
@@ -97,10 +88,6 @@ module _ {A B : Type 0} (σ : Shape A B) where
   pub live-at : (n : ℕ) (ls : List A) (i : ℕ) → i < n → getD (live n ls) i (σ .view (σ .zeros)) ≡ σ .view (getD ls i (σ .zeros))
   unfolding live
   live-at n ls i h = List·getD-map (σ .view) (take n ls) i (σ .zeros) ∙ ap (σ .view) (getD-take n ls i (σ .zeros) h)
-
-  -- the key of the line at i
-  abbrev pub keyAt : (B → ℕ) → List A → ℕ → ℕ
-  keyAt key ls i = key (σ .view (getD ls i (σ .zeros)))
 
   -- the list from i on: the line there and what follows it, or nothing
   pub from-here : (n : ℕ) (ls : List A) → n ≤ length ls → (i : ℕ) → i < n → drop i (live n ls) ≡ σ .view (getD ls i (σ .zeros)) ∷ drop (i + 1) (live n ls)
@@ -128,3 +115,14 @@ module _ {A B : Type 0} (σ : Shape A B) where
   -- a count and lines that obey rule 8 are those of what they mean
   pub written-back : (n : ℕ) (ls : List A) → length ls ≡ σ .limit → n ≤ σ .limit → blank n ls ≡ true → (length (live n ls) ≡ n) × (pad (live n ls) ≡ ls)
   written-back n ls e h b = (live-length n ls ∙ ap (min n) e ∙ min-eq-left h, pad-live n ls e h b)
+
+-- ---- any list
+
+-- an array of structs is known as a mapped list; it has as many lines
+pub unmapped : {X Y : Type 0} (f : X → Y) (l : List X) (n : ℕ) → length (map f l) ≡ n → length l ≡ n
+unmapped f l n e = sym (length-map l f) ∙ e
+
+-- rest is drop 1
+pub rest-drop : {A : Type 0} (l : List A) → rest l ≡ drop 1 l
+rest-drop [] = refl
+rest-drop (x ∷ l) = refl

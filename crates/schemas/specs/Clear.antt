@@ -6,7 +6,7 @@ use mathlib.Core.Path.{_≡_, refl, sym, _∙_, ap}
 use Prim.Native.Nat.{ℕ}
 use native.Mathlib.Decide.{decLt}
 use native.Mathlib.Omega.{arith}
-use Rattle.lists.specs.Tests.{never, false-of, and-iff, not-iff, not-false-iff}
+use Rattle.lists.specs.Tests.{never, and-iff, not-iff, not-false-iff}
 use Rattle.lists.specs.ListLaws.{any-member, member-any}
 use Rattle.lists.specs.KeyedLaws.{member-has, at-member, member-at}
 use Rattle.meaning.specs.Model.{Store, Model, Bytes, freePart, threadName, noSuchThread, storeOf, contextIn}
@@ -19,7 +19,7 @@ use Rattle.meaning.specs.Laws.Nested.{named, child-link, link-child, nested-agr
 use Rattle.meaning.specs.Laws.Step.{accepted-exact, step-accepted}
 use Rattle.meaning.specs.Laws.Within.{context-listed}
 use Rattle.laws.specs.ByName.{Listed, by-name}
-use Rattle.laws.specs.Nesting.{never-in-itself, inner-listed}
+use Rattle.laws.specs.Nesting.{never-in-itself, not-nested, inner-listed}
 use Rattle.laws.specs.StoreChanges.{Cleared, after-clear}
 use Rattle.laws.specs.StoreCalls.{clear-sound}
 use Rattle.schemas.specs.Memory.{Finite, picked, _⊕_⟼_, _⩤_}
@@ -49,11 +49,8 @@ module _ (m : Model) (sound : Sound m) (c : ℕ) (there : Listed (m .stores) c) 
   g : Cleared c ss ss′
   g = after-clear c ss
 
-  out-of : {x : ℕ} → (Nested ss x c → ⊥) → nested ss x c ≡ false
-  out-of {x} out = false-of _ (λ e. out (nested-agrees m sound x c .0 e))
-
   left-listed : (x : ℕ) → Listed ss x → (Nested ss x c → ⊥) → Listed ss′ x
-  left-listed x h out = g .names x .1 (h, out-of out)
+  left-listed x h out = g .names x .1 (h, not-nested m sound out)
 
   was-listed : (x : ℕ) → Listed ss′ x → Listed ss x × (Nested ss x c → ⊥)
   was-listed x h = let b = g .names x .0 h in (b .0, λ n. never (nested ss x c) (nested-agrees m sound x c .1 n) (b .1))
@@ -65,12 +62,12 @@ module _ (m : Model) (sound : Sound m) (c : ℕ) (there : Listed (m .stores) c) 
   child-after x s d =
       let l = child-link (withStores m ss′) sound′ d in
       let w = was-listed x (inner-listed (withStores m ss′) sound′ (child d)) in
-      (link-child m sound (sym (g .parents x (out-of (w .1))) ∙ l .0) (l .1), w .1)
+      (link-child m sound (sym (g .parents x (not-nested m sound (w .1))) ∙ l .0) (l .1), w .1)
 
   child-before : (x s : ℕ) → Child ss x s → (Nested ss x c → ⊥) → Child ss′ x s
   child-before x s d out =
       let l = child-link m sound d in
-      link-child (withStores m ss′) sound′ (g .parents x (out-of out) ∙ l .0) (l .1)
+      link-child (withStores m ss′) sound′ (g .parents x (not-nested m sound out) ∙ l .0) (l .1)
 
   context-clears : BSClear (backingOf ss c) (backingOf ss′ c)
   context-clears =
@@ -79,8 +76,8 @@ module _ (m : Model) (sound : Sound m) (c : ℕ) (there : Listed (m .stores) c) 
       let f = by-name m sound .fits c there in
       let p = named ss c in
       let q = named ss′ c in
-      let t = g .totals c (out-of (never-in-itself m sound)) in
-      let u = g .here there (out-of (never-in-itself m sound)) in
+      let t = g .totals c (not-nested m sound (never-in-itself m sound)) in
+      let u = g .here there (not-nested m sound (never-in-itself m sound)) in
       record {
         changes = record { before = i; after = j };
         memory =
@@ -114,7 +111,7 @@ module _ (m : Model) (sound : Sound m) (c : ℕ) (there : Listed (m .stores) c) 
     λ x u. picked (λ b. SameStore b (backingOf ss′ x)) x c (λ e. rw e (same-store _))
         (λ d. ⊎-elim
         (λ b. let out : Nested ss x c → ⊥ = λ n. b .1 (nested-plus ss n) in
-        same-line ss ss′ x (g .totals x (out-of out)) (ap (λ s. s .used) (g .elsewhere x (out-of out) d))
+        same-line ss ss′ x (g .totals x (not-nested m sound out)) (ap (λ s. s .used) (g .elsewhere x (not-nested m sound out) d))
         (λ y. (λ e. child-after y x e .0, λ e. child-before y x e (λ n. ⊎-elim (λ q. d q) out (parent-nested m sound n e)))))
         (λ e. absurd (d e))
         u),

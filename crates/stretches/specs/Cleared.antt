@@ -15,7 +15,7 @@ use Rattle.meaning.specs.Changes.{cleared, withStores, withThreads}
 use Rattle.meaning.specs.Laws.Nested.{child-link, link-child, nested-agrees}
 use Rattle.laws.specs.ByName.{Listed, root-start}
 use Rattle.laws.specs.Frames.{sound-with-threads}
-use Rattle.laws.specs.Nesting.{nested-transitive, never-in-itself}
+use Rattle.laws.specs.Nesting.{nested-transitive, never-in-itself, not-nested}
 use Rattle.laws.specs.StoreChanges.{after-clear}
 use Rattle.laws.specs.StoreCalls.{clear-sound}
 
@@ -61,7 +61,7 @@ module _ (m : Model) (sound : Sound m) (c : ℕ) (there : Listed (m .stores) c) 
   nested-on (child h) out = child (child-on h out)
   nested-on {x} (inChild {y = y} h n) out =
       inChild
-      (child-on h (false-of _ (λ e. never _ (nested-agrees m sound x c .1 (nested-transitive ss n (nested-agrees m sound y c .0 e))) out)))
+      (child-on h (not-nested m sound (λ o. never _ (nested-agrees m sound x c .1 (nested-transitive ss n o)) out)))
       (nested-on n out)
 
   -- of a store that is left, nested in means what it meant
@@ -72,7 +72,7 @@ module _ (m : Model) (sound : Sound m) (c : ℕ) (there : Listed (m .stores) c) 
 
   -- no store is nested in itself
   pub not-in-itself : nested ss c c ≡ false
-  not-in-itself = false-of _ (λ e. never-in-itself m sound (nested-agrees m sound c c .0 e))
+  not-in-itself = not-nested m sound (never-in-itself m sound)
 
   pub root-left : rootOf (cleared c ss) ≡ rootOf ss
   root-left = root-start left left-sound ∙ sym (root-start m sound)
