@@ -20,10 +20,10 @@ use Rattle.meaning.specs.Facts.{_Holds_, Sound}
 use Rattle.meaning.specs.Reports.{firstReport}
 use Rattle.meaning.specs.Calls.{find, found, checks, change, row, step}
 use Rattle.meaning.specs.Laws.Agree.{holds-iff, sound-agrees}
-use Rattle.meaning.specs.Laws.Nested.{links-top, child-link, link-child, root-listed, root-own-parent}
+use Rattle.meaning.specs.Laws.Nested.{links-top, named, child-link, link-child, root-listed, root-own-parent}
 use Rattle.meaning.specs.Laws.Step.{sound-row}
 use Rattle.meaning.specs.Laws.Find.{find-right}
-use Rattle.laws.specs.ByName.{Listed, named, ByName, by-name, root-start, other-line}
+use Rattle.laws.specs.ByName.{Listed, ByName, by-name, root-start, other-line}
 use Rattle.laws.specs.Nesting.{nested-below}
 use Rattle.laws.specs.Geometry.{holders-nested}
 use Rattle.laws.specs.Depth.{child-depth, find-deepest}

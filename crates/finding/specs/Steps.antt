@@ -1,13 +1,12 @@
 -- The way down as the code goes it, over the first n lines of an array: one law for each way out. Assumes nothing.
 use mathlib.Core.Bool.{Bool, true, false}
 use mathlib.Core.List.{List, _∷_}
-use mathlib.Core.Path.{_≡_, refl, sym, _∙_, ap}
+use mathlib.Core.Path.{_≡_, refl, sym, _∙_}
 use Prim.Native.Nat.{ℕ, _+_, _≤_, _<_, min}
 use native.Mathlib.Omega.{arith}
 use lib.ListN.{length, drop, getD}
-use Rattle.lines.specs.Shape.{live, live-length}
-use Rattle.lines.specs.Lookup.{lines-read}
-use Rattle.lines.specs.Others.{first-none, first-line, from-here, from-end}
+use Rattle.lines.specs.Shape.{live, from-here, from-end, first-line, first-none}
+use Rattle.lines.specs.Lookup.{count-read, lines-read}
 use Rattle.names.specs.declared.lines.Store.{Store as Line}
 use Rattle.meaning.specs.Model.{Store, _holds_, whole}
 use Rattle.stores.specs.Stores.{view, zeros, storeLine, reading}
@@ -53,7 +52,7 @@ module _ (n : ℕ) (ls : List Line) (s a : ℕ) where
 module _ (t : Stores) (long : length (t .lines) ≡ 64) (n : ℕ) (counted : n ≡ length (reading t)) where
   few : n ≡ min (t .count) 64
   unfolding reading
-  few = counted ∙ live-length storeLine (t .count) (t .lines) ∙ ap (min (t .count)) long
+  few = count-read storeLine (t .count) n (t .lines) long counted
 
   pub lines-fit : n ≤ 64
   lines-fit = omega (arith, few)

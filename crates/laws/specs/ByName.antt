@@ -10,29 +10,27 @@ use native.Mathlib.Omega.{arith}
 use Rattle.lists.specs.Lists.{_∈_, rest}
 use Rattle.lists.specs.Keyed.{Rising}
 use Rattle.lists.specs.Tests.{never}
-use Rattle.lists.specs.KeyedLaws.{has-iff, has-member, member-has, at-member, at-key, member-at}
-use Rattle.lists.specs.KeyedChanges.{two-by-key, by-key-two}
+use Rattle.lists.specs.KeyedLaws.{has-iff, has-member, member-has, at-member, member-at, two-by-key, by-key-two}
 use Rattle.names.specs.Overhead.{storeOverhead}
 use Rattle.meaning.specs.Model.{Run, Store, Thread, Model, storeName, listed, noSuchStore, storeOf, rootOf}
 use Rattle.meaning.specs.Nesting.{parentIn}
 use Rattle.meaning.specs.Facts.{Rule2, Rule3, Rule4, Sound}
 use Rattle.meaning.specs.Changes.{withStores}
-use Rattle.meaning.specs.Laws.Nested.{root-or-other, root-listed, root-own-parent}
+use Rattle.meaning.specs.Laws.Nested.{named, root-or-other, root-listed, root-own-parent}
 use Rattle.laws.specs.Frames.{sound-with-stores}
 
+-- a store of this name is listed
 abbrev pub Listed : List Store → ℕ → Type 0
 Listed ss k = listed ss k ≡ true
 
+-- its total and its used, by name
 abbrev pub totalIn : List Store → ℕ → ℕ
 totalIn ss k = storeOf ss k .total
 
 abbrev pub usedIn : List Store → ℕ → ℕ
 usedIn ss k = storeOf ss k .used
 
-pub named : (ss : List Store) (k : ℕ) → storeOf ss k .start ≡ k
-named ss k = at-key storeName noSuchStore (λ x. refl) ss k
-
--- of a store but the root: its parent is listed, and its total lies in the parent's used part
+-- of a store but the root: its parent is listed, its total is at least 16 and lies in the parent's used part
 pub record Hung (ss : List Store) (k : ℕ) : Type 0 where
   pub parent : Listed ss (parentIn ss k)
   pub least : storeOverhead ≤ totalIn ss k
@@ -41,11 +39,14 @@ pub record Hung (ss : List Store) (k : ℕ) : Type 0 where
 
 -- rules 2 to 4 of the stores in an area, whose start is the root's name
 pub record ByName (area : Run) (ss : List Store) : Type 0 where
+  -- rule 2
   pub root : Listed ss (area .start)
   pub extent : totalIn ss (area .start) ≡ area .length
   pub itself : parentIn ss (area .start) ≡ area .start
+  -- rule 3: the root is lowest, the others hang below a parent
   pub lowest : (k : ℕ) → Listed ss k → area .start ≤ k
   pub others : (k : ℕ) → Listed ss k → area .start < k → Hung ss k
+  -- rule 4
   pub fits : (k : ℕ) → Listed ss k → usedIn ss k + storeOverhead ≤ totalIn ss k
   pub apart : (a b : ℕ) → Listed ss a → Listed ss b → area .start < a → parentIn ss a ≡ parentIn ss b → a < b → a + totalIn ss a ≤ b
 

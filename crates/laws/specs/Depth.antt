@@ -16,10 +16,10 @@ use Rattle.meaning.specs.Model.{Store, Model, Bytes, whole, storeName, noSuchSt
 use Rattle.meaning.specs.Nesting.{Child, Nested, child, inChild, parentIn, depth}
 use Rattle.meaning.specs.Facts.{_Holds_, Sound}
 use Rattle.meaning.specs.Calls.{find, step}
-use Rattle.meaning.specs.Laws.Nested.{links-top, links-up, child-link, link-child}
+use Rattle.meaning.specs.Laws.Nested.{links-top, links-up, named, child-link, link-child}
 use Rattle.meaning.specs.Laws.Step.{accepted-sound}
 use Rattle.meaning.specs.Laws.Find.{find-right}
-use Rattle.laws.specs.ByName.{Listed, named, ByName, by-name}
+use Rattle.laws.specs.ByName.{Listed, ByName, by-name}
 use Rattle.laws.specs.Geometry.{holders-nested}
 
 module _ (m : Model) (sound : Sound m) where
@@ -37,7 +37,7 @@ module _ (m : Model) (sound : Sound m) where
       rw (k .0) at u
 
   -- what is nested is deeper
-  pub nested-deeper : {x s : ℕ} → Nested ss x s → depth ss s < depth ss x
+  nested-deeper : {x s : ℕ} → Nested ss x s → depth ss s < depth ss x
   nested-deeper (child c) = let e = child-depth c in omega arith
   nested-deeper (inChild c n) = let e = child-depth c in let d = nested-deeper n in omega arith
 

@@ -7,13 +7,13 @@ use Rattle.meaning.specs.Model.{Model, Bytes, contextIn}
 use Rattle.meaning.specs.Nesting.{parentIn}
 use Rattle.meaning.specs.Facts.{Sound}
 use Rattle.meaning.specs.Calls.{Call, start, root, contextOf, setContext, totalOf, usedOf, freeOf, find, allocate, makeStore, clear, resize, makeStack, destroyStack, addThread, removeThread, checks, change, allChecks, step}
+use Rattle.meaning.specs.Laws.Nested.{named}
 use Rattle.meaning.specs.Laws.Step.{accepted-exact, accepted-sound}
-use Rattle.laws.specs.ByName.{named}
+use Rattle.meaning.specs.Laws.Within.{context-listed}
 use Rattle.laws.specs.Start.{start-sound}
 use Rattle.laws.specs.ThreadCalls.{set-context-sound, add-thread-sound, remove-thread-sound}
 use Rattle.laws.specs.StackCalls.{make-stack-sound, destroy-stack-sound}
 use Rattle.laws.specs.StoreCalls.{allocate-sound, make-store-sound, clear-sound, resize-sound}
-use Rattle.meaning.specs.Laws.Within.{context-listed}
 
 pub change-sound : (m : Model) (bs : Bytes) (c : Call) → step m bs c .report ≡ 0 → Sound (change m bs c .model)
 unfolding allChecks checks change

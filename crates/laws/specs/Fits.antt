@@ -1,4 +1,4 @@
--- The limits of a model never change, its areas change with a start alone, and lists within the limits stay within them. Assumes nothing.
+-- Lists within the limits of a model stay within them. Assumes nothing.
 use mathlib.Core.Bool.{Bool, true, false, not, _&&_}
 use mathlib.Core.List.{List}
 use mathlib.Core.Logic.{inl, inr}
@@ -6,57 +6,18 @@ use mathlib.Core.Path.{_≡_, refl}
 use Prim.Native.Nat.{ℕ, _≤_}
 use native.Mathlib.Omega.{arith}
 use lib.Dec.{leb}
-use borrow.Author.Tests.{leb-false}
 use lib.ListN.{length, length-map}
+use borrow.Author.Tests.{leb-false}
+use Rattle.lists.specs.Lists.{keep}
 use Rattle.lists.specs.Keyed.{has}
 use Rattle.lists.specs.Tests.{tested, never, and-iff, not-iff, reflect}
-use Rattle.lists.specs.Lists.{keep}
 use Rattle.lists.specs.ListChanges.{keep-length}
 use Rattle.lists.specs.KeyedChanges.{insert-length}
 use Rattle.meaning.specs.Model.{Run, Thread, Model, Bytes, storeName, threadName, stackName}
 use Rattle.meaning.specs.Changes.{placed, started}
-use Rattle.meaning.specs.Calls.{Call, start, root, contextOf, setContext, totalOf, usedOf, freeOf, find, allocate, makeStore, clear, resize, makeStack, destroyStack, addThread, removeThread, code, checks, change, allChecks, step}
-use Rattle.meaning.specs.Laws.Step.{accepted-exact, step-accepted}
+use Rattle.meaning.specs.Calls.{Call, start, root, contextOf, setContext, totalOf, usedOf, freeOf, find, allocate, makeStore, clear, resize, makeStack, destroyStack, addThread, removeThread, checks, change, allChecks, step}
+use Rattle.meaning.specs.Laws.Step.{accepted-exact}
 use Rattle.laws.specs.AnyStep.{after-step}
-
--- ---- limits and areas
-
--- the same limits, and but for a start the same areas
-abbrev Keeps : Model → Call → Model → Type 0
-Keeps m c after = (after .limits ≡ m .limits) × ((code c ≡ 0 → ⊥) → (after .storeArea ≡ m .storeArea) × (after .stackArea ≡ m .stackArea))
-
-change-keeps : (m : Model) (bs : Bytes) (c : Call) → Keeps m c (change m bs c .model)
-unfolding change
-change-keeps m bs (start a b) = (refl, λ n. absurd (n refl))
-change-keeps m bs root = (refl, λ n. (refl, refl))
-change-keeps m bs (contextOf t) = (refl, λ n. (refl, refl))
-change-keeps m bs (setContext t s) = (refl, λ n. (refl, refl))
-change-keeps m bs (totalOf s) = (refl, λ n. (refl, refl))
-change-keeps m bs (usedOf s) = (refl, λ n. (refl, refl))
-change-keeps m bs (freeOf s) = (refl, λ n. (refl, refl))
-change-keeps m bs (find a) = (refl, λ n. (refl, refl))
-change-keeps m bs (allocate t n) = (refl, λ n. (refl, refl))
-change-keeps m bs (makeStore t n) = (refl, λ n. (refl, refl))
-change-keeps m bs (clear t) = (refl, λ n. (refl, refl))
-change-keeps m bs (resize s n) = (refl, λ n. (refl, refl))
-change-keeps m bs (makeStack n) = (refl, λ n. (refl, refl))
-change-keeps m bs (destroyStack k) = (refl, λ n. (refl, refl))
-change-keeps m bs (addThread t s) = (refl, λ n. (refl, refl))
-change-keeps m bs (removeThread t) = (refl, λ n. (refl, refl))
-
-step-keeps : (m : Model) (bs : Bytes) (c : Call) → Keeps m c (step m bs c .model)
-step-keeps m bs c = after-step (Keeps m c) m bs c (λ _. change-keeps m bs c) (refl, λ n. (refl, refl))
-
--- No call changes the limits.
-pub limits-stay : (m : Model) (bs : Bytes) (c : Call) → step m bs c .model .limits ≡ m .limits
-limits-stay m bs c = step-keeps m bs c .0
-
--- No call but a start changes an area.
-pub areas-stay : (m : Model) (bs : Bytes) (c : Call) → (code c ≡ 0 → ⊥)
-    → (step m bs c .model .storeArea ≡ m .storeArea) × (step m bs c .model .stackArea ≡ m .stackArea)
-areas-stay m bs c n = step-keeps m bs c .1 n
-
--- ---- counts
 
 -- each list is at most as long as its limit, which has room for the root
 pub record Fits (m : Model) : Type 0 where
@@ -108,8 +69,3 @@ change-fits m bs (removeThread t) f h = record { root = f .root; stores = f .sto
 -- Lists within the limits stay within them, under any call.
 pub fits-stay : (m : Model) (bs : Bytes) (c : Call) → Fits m → Fits (step m bs c .model)
 fits-stay m bs c f = after-step Fits m bs c (change-fits m bs c f) f
-
--- An accepted start brings them there from any model with room for the root.
-pub start-fits : (m : Model) (bs : Bytes) (a b : Run) → 1 ≤ m .limits .stores → step m bs (start a b) .report ≡ 0 → Fits (step m bs (start a b) .model)
-unfolding change
-start-fits m bs a b l h = rw (step-accepted m bs (start a b) h) (started-fits m a b l)

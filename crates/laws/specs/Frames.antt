@@ -3,7 +3,6 @@ use mathlib.Core.List.{List}
 use Rattle.lists.specs.Keyed.{Has}
 use Rattle.lists.specs.Lists.{_∈_}
 use Rattle.meaning.specs.Model.{Run, Store, Thread, Stack, Model, storeName}
-use Rattle.meaning.specs.Rules.{rule1, rule2, rule3, rule4, rule5, rule6, rule7}
 use Rattle.meaning.specs.Facts.{Rule2, Rule3, Rule4, Rule5, Rule6, Rule7, Sound}
 use Rattle.meaning.specs.Laws.Agree.{rule1-agrees, rule2-agrees, rule3-agrees, rule4-agrees, rule6-agrees, rule5-agrees, rule7-agrees}
 use Rattle.meaning.specs.Changes.{withStores, withThreads, withStacks}

@@ -6,15 +6,13 @@ use mathlib.Core.Path.{_≡_, refl, sym, _∙_, ap}
 use Prim.Native.Nat.{ℕ, zero, suc, _+_, _<_, _≤_}
 use native.Mathlib.Decide.{ℕ-discrete, decLt}
 use native.Mathlib.Omega.{arith}
-use Rattle.lists.specs.Lists.{AllTwo}
 use Rattle.lists.specs.Tests.{false-of}
-use Rattle.lists.specs.KeyedChanges.{by-key-two}
 use Rattle.names.specs.Overhead.{storeOverhead}
-use Rattle.meaning.specs.Model.{Store, Model, whole, usedPart, freePart, free, storeName, listed, storeOf}
+use Rattle.meaning.specs.Model.{Store, Model, whole, usedPart, freePart, free, listed, storeOf}
 use Rattle.meaning.specs.Nesting.{Child, Nested, child, inChild, parentIn}
 use Rattle.meaning.specs.Facts.{_Holds_, _Inside_, _ApartFrom_, Sound}
-use Rattle.meaning.specs.Laws.Nested.{child-link, link-child}
-use Rattle.laws.specs.ByName.{Listed, totalIn, usedIn, named, ByName, by-name}
+use Rattle.meaning.specs.Laws.Nested.{named, child-link, link-child}
+use Rattle.laws.specs.ByName.{Listed, totalIn, usedIn, ByName, by-name}
 use Rattle.laws.specs.Nesting.{nested-transitive, nested-below, inner-listed, outer-listed}
 
 module _ (m : Model) (sound : Sound m) where
@@ -50,14 +48,14 @@ module _ (m : Model) (sound : Sound m) where
   nested-inside {x} {s} n = let g = lies n in let p = named ss x in let q = named ss s in omega arith
 
   -- of two children of one parent the lower ends before the other
-  siblings : {a b p : ℕ} → Child ss a p → Child ss b p → a < b → a + totalIn ss a ≤ b
+  pub siblings : {a b p : ℕ} → Child ss a p → Child ss b p → a < b → a + totalIn ss a ≤ b
   siblings {a} {b} {p} c d l =
       let i = child-link m sound c in
       let j = child-link m sound d in
       let low = by .lowest p (outer-listed m sound (child c)) in
       by .apart a b (inner-listed m sound (child c)) (inner-listed m sound (child d)) (omega arith) (i .0 ∙ sym (j .0)) l
 
-  -- what is nested in the parent of a higher store ends before that store
+  -- what is nested in a store's parent and starts below that store ends before it
   beside : {x b p : ℕ} → Nested ss x p → Child ss b p → x < b → x + totalIn ss x ≤ b
   beside (child c) d l = siblings c d l
   beside (inChild {y = y} c n) d l =
@@ -108,7 +106,7 @@ module _ (m : Model) (sound : Sound m) where
       (λ o. ⊎-elim (λ n. absurd (out n)) (λ n x j k. let g = nested-inside n in omega arith) o)
       (apart-or-nested a b h i d)
 
-  -- No store begins where the free part of one does, if it has any bytes.
+  -- No store begins where another's free part does, if that part has any bytes.
   pub none-at-free : (a : ℕ) → Listed ss a → 0 < free (storeOf ss a) → listed ss (a + storeOverhead + usedIn ss a) ≡ false
   none-at-free a h some =
       let b = a + storeOverhead + usedIn ss a in
@@ -118,10 +116,6 @@ module _ (m : Model) (sound : Sound m) where
       let p = named ss a in
       let q = named ss b in
       free-apart a b h i (omega arith) (λ n. let l = nested-below m sound n in omega arith) b (omega arith) (omega arith))
-
-  -- The starts are distinct.
-  pub starts-distinct : AllTwo (λ s t. s .start ≡ t .start → ⊥) ss
-  starts-distinct = by-key-two storeName _ ss (sound .rule3 .rises) (λ s t i j l e. omega arith)
 
   -- Of two listed stores that hold one address, one is nested in the other: the holders of an address are a chain.
   pub holders-nested : (a b x : ℕ) → Listed ss a → Listed ss b → (a ≡ b → ⊥) → whole (storeOf ss a) Holds x → whole (storeOf ss b) Holds x

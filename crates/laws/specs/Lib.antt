@@ -14,4 +14,5 @@ pub mod EachCall
 pub mod SoundStaysSound
 pub mod Touched
 pub mod Stays
+pub mod Fixed
 pub mod Fits

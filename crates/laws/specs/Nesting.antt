@@ -1,14 +1,16 @@
 -- Nested in: transitive, never of itself, always in a store of a lower start; and every store but the root is nested in the root. Assumes nothing.
+use mathlib.Core.Bool.{false}
 use mathlib.Core.List.{List, List·Memᴰ·tail as there}
 use mathlib.Core.Path.{_≡_, refl}
 use Prim.Native.Nat.{ℕ, zero, suc, _<_, _≤_}
 use native.Mathlib.Decide.{ℕ-discrete}
 use native.Mathlib.Omega.{arith}
+use Rattle.lists.specs.Tests.{false-of}
 use Rattle.lists.specs.KeyedLaws.{has-iff, member-has}
 use Rattle.meaning.specs.Model.{Store, Model, storeName, rootOf}
-use Rattle.meaning.specs.Nesting.{Nested, child, inChild, parentIn}
+use Rattle.meaning.specs.Nesting.{Nested, child, inChild, nested, parentIn}
 use Rattle.meaning.specs.Facts.{Sound}
-use Rattle.meaning.specs.Laws.Nested.{child-link, link-child}
+use Rattle.meaning.specs.Laws.Nested.{child-link, link-child, nested-agrees}
 use Rattle.laws.specs.ByName.{Listed, ByName, root-start, by-name}
 
 pub nested-transitive : (ss : List Store) {x y s : ℕ} → Nested ss x y → Nested ss y s → Nested ss x s
@@ -28,6 +30,10 @@ module _ (m : Model) (sound : Sound m) where
 
   pub never-in-itself : {x : ℕ} → Nested ss x x → ⊥
   never-in-itself n = let l = nested-below n in omega arith
+
+  -- where it is not so, the test is false
+  pub not-nested : {x s : ℕ} → (Nested ss x s → ⊥) → nested ss x s ≡ false
+  not-nested {x} {s} out = false-of _ (λ e. out (nested-agrees m sound x s .0 e))
 
   -- what is nested, and what it is nested in, is listed
   pub inner-listed : {x s : ℕ} → Nested ss x s → Listed ss x

@@ -13,8 +13,8 @@ use Rattle.lists.specs.Keyed.{has, insert, remove}
 use Rattle.lists.specs.Tests.{tested, false-of, unless-iff}
 use Rattle.lists.specs.ListLaws.{keep-member}
 use Rattle.lists.specs.ListChanges.{two-keep}
-use Rattle.lists.specs.KeyedLaws.{has-member, at-member, at-key}
-use Rattle.lists.specs.KeyedChanges.{two-by-key, insert-member, sum-insert, two-insert, rising-insert, sum-remove}
+use Rattle.lists.specs.KeyedLaws.{has-member, at-member, at-key, two-by-key}
+use Rattle.lists.specs.KeyedChanges.{insert-member, sum-insert, two-insert, rising-insert, sum-remove}
 use Rattle.names.specs.Overhead.{stackTaken}
 use Rattle.meaning.specs.Model.{Run, Stack, Model, end, stackRun, stackName, noSuchStack, stackOf}
 use Rattle.meaning.specs.Reports.{touchesNoEnd}
@@ -44,13 +44,13 @@ shortened-empty area r n l h = elim (tested (eqb n (r .length))) [
 ]
 
 -- a run that is not empty and the bytes of a stack that may join it touch
-touching : (r k : Run) → touchesNoEnd r k ≡ false → eqb (r .length) 0 ≡ false → (end k ≡ r .start) ⊎ (end r ≡ k .start)
+pub touching : (r k : Run) → touchesNoEnd r k ≡ false → eqb (r .length) 0 ≡ false → (end k ≡ r .start) ⊎ (end r ≡ k .start)
 touching r k h e = elim (tested (eqb (end k) (r .start))) [
   | inl f ↦ inl (eqb-true (end k) (r .start) f)
   | inr f ↦ inr (eqb-true (end r) (k .start) (unless-iff (eqb (end k) (r .start)) (eqb (end r) (k .start)) .0 (not-false _ (rw e at h)) f))
 ]
 
--- joined, they hold no more than either holds
+-- joined, they hold only what one of them holds
 joined-holds : (r k : Run) (a : ℕ) → touchesNoEnd r k ≡ false → joined r k Holds a → (r Holds a → ⊥) → k Holds a
 joined-holds r k a h i out = elim (tested (eqb (r .length) 0)) [
   | inl e ↦ rw e at i
@@ -81,12 +81,19 @@ joined-length r k = elim (tested (eqb (r .length) 0)) [
 apart-swap : (r s : Run) → r ApartFrom s → s ApartFrom r
 apart-swap r s h a i j = h a j i
 
+-- a listed stack stands in the list; what is looked up by a name has it
+pub in-stacks : (ks : List Stack) (k : ℕ) → has stackName ks k ≡ true → stackOf ks k ∈ ks
+in-stacks ks k h = at-member stackName noSuchStack ks k h
+
+pub stack-named : (ks : List Stack) (k : ℕ) → stackOf ks k .start ≡ k
+stack-named ks k = at-key stackName noSuchStack (λ x. refl) ks k
+
 module _ (m : Model) (sound : Sound m) where
   abbrev ks : List Stack
   ks = m .stacks
 
   -- two stacks of different names share no address
-  stacks-apart : {k l : Stack} → k ∈ ks → l ∈ ks → (k .start ≡ l .start → ⊥) → stackRun k ApartFrom stackRun l
+  pub stacks-apart : {k l : Stack} → k ∈ ks → l ∈ ks → (k .start ≡ l .start → ⊥) → stackRun k ApartFrom stackRun l
   stacks-apart {k} {l} i j d = elim (decLt (k .start) (l .start)) [
     | yes b ↦ two-by-key stackName _ ks (sound .rule6 .rises) (sound .rule6 .apart) i j b
     | no b ↦ apart-swap (stackRun l) (stackRun k) (two-by-key stackName _ ks (sound .rule6 .rises) (sound .rule6 .apart) j i (omega arith))
@@ -98,7 +105,7 @@ module _ (m : Model) (sound : Sound m) where
     abbrev new : Stack
     new = record { start = m .freeRun .start; total = stackTaken n }
 
-    new-name : has stackName ks (new .start) ≡ false
+    pub new-name : has stackName ks (new .start) ≡ false
     new-name =
         false-of _
         (λ h. let x = has-member stackName ks (new .start) h in
@@ -133,22 +140,17 @@ module _ (m : Model) (sound : Sound m) where
     abbrev gone : Stack
     gone = stackOf ks k
 
-    in-stacks : gone ∈ ks
-    in-stacks = at-member stackName noSuchStack ks k there
-
-    gone-name : gone .start ≡ k
-    gone-name = at-key stackName noSuchStack (λ x. refl) ks k
-
     -- a stack that stays is another than the one that goes
     other : {x : Stack} → x ∈ remove stackName k ks → (x ∈ ks) × (gone .start ≡ x .start → ⊥)
     other {x} i =
         let o = keep-member _ ks i in
         let d = eqb-false (x .start) k (not-true _ (o .1)) in
-        (o .0, λ e. d (sym e ∙ gone-name))
+        (o .0, λ e. d (sym e ∙ stack-named ks k))
 
     pub destroy-stack-sound : Sound (withStacks m (remove stackName k ks) (joined (m .freeRun) (stackRun gone)))
     destroy-stack-sound =
-        let long = sound .rule6 .least gone in-stacks in
+        let here = in-stacks ks k there in
+        let long = sound .rule6 .least gone here in
         let sums = joined-length (m .freeRun) (stackRun gone) in
         sound-with-stacks m sound _ _
         (record {
@@ -156,11 +158,11 @@ module _ (m : Model) (sound : Sound m) where
           least = λ x i. sound .rule6 .least x (other i .0);
           inside = λ x i. sound .rule6 .inside x (other i .0);
           taken = λ x i a h j. let o = other i in
-              stacks-apart in-stacks (o .0) (o .1) a (joined-holds (m .freeRun) (stackRun gone) a touches j (sound .rule6 .taken x (o .0) a h)) h;
+              stacks-apart here (o .0) (o .1) a (joined-holds (m .freeRun) (stackRun gone) a touches j (sound .rule6 .taken x (o .0) a h)) h;
           apart = two-keep _ _ ks (sound .rule6 .apart);
         })
         (record {
-          inside = joined-inside (m .stackArea) (m .freeRun) (stackRun gone) touches (sound .rule7 .inside) (sound .rule6 .inside gone in-stacks);
+          inside = joined-inside (m .stackArea) (m .freeRun) (stackRun gone) touches (sound .rule7 .inside) (sound .rule6 .inside gone here);
           makes = let s = sum-remove stackName noSuchStack (λ x. x .total) ks k (sound .rule6 .rises) there in let o = sound .rule7 .makes in omega arith;
           empty = λ e. absurd (omega arith);
         })

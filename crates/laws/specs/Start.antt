@@ -1,10 +1,10 @@
--- Call 0 makes a sound model of any. Assumes nothing.
+-- An accepted call 0 makes a sound model of any model. Assumes nothing.
 use mathlib.Core.Bool.{true}
 use mathlib.Core.List.{List·Memᴰ·not-nil as nowhere, List·Memᴰ·eq-of-singleton as only}
 use mathlib.Core.Path.{_≡_, refl}
 use native.Mathlib.Omega.{arith}
 use Rattle.meaning.specs.Model.{Run, Model}
-use Rattle.meaning.specs.Rules.{areasSound, rule1}
+use Rattle.meaning.specs.Rules.{areasSound}
 use Rattle.meaning.specs.Facts.{Rule1, Sound}
 use Rattle.meaning.specs.Changes.{started}
 use Rattle.meaning.specs.Laws.Agree.{rule1-agrees}

@@ -1,27 +1,26 @@
 -- What stays: a call changes only the lines that it touches. Assumes nothing.
-use mathlib.Core.Bool.{Bool, true, false, not}
+use mathlib.Core.Bool.{Bool, true, false}
 use mathlib.Core.List.{List, map}
-use mathlib.Core.Logic.{inl, inr}
+use mathlib.Core.Logic.{inl, inr, ⊎-elim}
 use mathlib.Core.Path.{_≡_, refl, sym, _∙_, ap}
 use Prim.Native.Nat.{ℕ, _+_}
 use native.Mathlib.Omega.{arith}
-use lib.Dec.{eqb}
 use borrow.Author.Tests.{eqb-false, ne-eqb}
-use Rattle.lists.specs.Lists.{keep}
 use Rattle.lists.specs.Keyed.{has, at, insert, remove}
-use Rattle.lists.specs.Tests.{tested, never, and-iff, unless-iff, not-iff, reflect}
-use Rattle.lists.specs.KeyedChanges.{has-insert, at-insert-old, has-map, at-map-same, has-keep, at-keep}
+use Rattle.lists.specs.Tests.{tested, never, same-test, reflect}
+use Rattle.lists.specs.KeyedChanges.{has-insert, at-insert-old, has-map, at-map-same, has-remove-iff, at-remove}
 use Rattle.names.specs.Overhead.{storeTaken}
 use Rattle.meaning.specs.Model.{Store, Thread, Stack, Run, Model, Bytes, storeName, threadName, stackName, listed, noSuchThread, noSuchStack, contextIn}
 use Rattle.meaning.specs.Nesting.{nested, parentIn}
 use Rattle.meaning.specs.Changes.{withUsed, withTotal, cleared, withContext, withStores, withThreads, withStacks}
 use Rattle.meaning.specs.Calls.{Call, start, root, contextOf, setContext, totalOf, usedOf, freeOf, find, allocate, makeStore, clear, resize, makeStack, destroyStack, addThread, removeThread, checks, change, allChecks, step}
+use Rattle.meaning.specs.Laws.Nested.{named}
 use Rattle.meaning.specs.Laws.Step.{accepted-exact, accepted-sound}
-use Rattle.laws.specs.AnyStep.{after-step}
-use Rattle.laws.specs.ByName.{Listed, usedIn, named}
-use Rattle.laws.specs.Geometry.{none-at-free}
-use Rattle.laws.specs.StoreChanges.{used-set, resized, kept, added}
 use Rattle.meaning.specs.Laws.Within.{context-listed}
+use Rattle.laws.specs.AnyStep.{after-step}
+use Rattle.laws.specs.ByName.{Listed, usedIn}
+use Rattle.laws.specs.Geometry.{none-at-free}
+use Rattle.laws.specs.StoreChanges.{used-set, resized, after-clear, added}
 use Rattle.laws.specs.Touched.{nothing, just, storeLines, threadLine, stackLine, Touched, touched, SameLine, StoresStay, Stays}
 
 stores-same : (t : Touched) (ss : List Store) → StoresStay t ss ss
@@ -41,9 +40,7 @@ module _ {A : Type 0} (key : A → ℕ) (none : ℕ → A) (l : List A) (k : ℕ
   same-insert n d = (has-insert key n l k ∙ rw (ne-eqb (key n) k d), at-insert-old key none n l k d)
 
   same-remove : (j : ℕ) → (k ≡ j → ⊥) → SameLine key none l (remove key j l) k
-  same-remove j d =
-      let q : not (eqb k j) ≡ true = rw (ne-eqb k j d) in
-      (has-keep key (λ x. not (eqb x j)) l k ∙ rw q, at-keep key (λ x. not (eqb x j)) none l k q)
+  same-remove j d = let e = has-remove-iff key j l k in (same-test _ _ (λ h. e .0 h .0) (λ h. e .1 (h, d)), at-remove key none j l k d)
 
 -- a thread call touches one thread
 threads-stay : (m : Model) (t : ℕ) (ts : List Thread) → ((k : ℕ) → (k ≡ t → ⊥) → SameLine threadName noSuchThread (m .threads) ts k)
@@ -104,9 +101,8 @@ make-stays ss c u new fresh =
     let a = added new mid (g .names (new .start) ∙ fresh) in
     let other : (k : ℕ) → Listed ss k → new .start ≡ k → ⊥ = λ k h e. never (listed ss k) h (rw e at fresh) in
     record {
-      stay = λ k h _. a .names k ∙ unless-iff (eqb (new .start) k) (listed mid k) .1 (λ _. g .names k ∙ h);
-      come = λ k h e. sym (g .names k)
-          ∙ unless-iff (eqb (new .start) k) (listed mid k) .0 (sym (a .names k) ∙ h) (ne-eqb (new .start) k (λ q. eqb-false k (new .start) e (sym q)));
+      stay = λ k h _. a .names k .1 (inl (g .names k ∙ h));
+      come = λ k h e. ⊎-elim (λ l. sym (g .names k) ∙ l) (λ q. absurd (eqb-false k (new .start) e q)) (a .names k .0 h);
       parents = λ k h _. ap (λ s. s .parent) (a .elsewhere k (other k h)) ∙ g .parents k h;
       totals = λ k h _ _. ap (λ s. s .total) (a .elsewhere k (other k h)) ∙ g .totals k h;
       useds = λ k h _ e. ap (λ s. s .used) (a .elsewhere k (other k h)) ∙ g .elsewhere k h (eqb-false k c e);
@@ -114,17 +110,13 @@ make-stays ss c u new fresh =
 
 clear-stays : (ss : List Store) (c : ℕ) → StoresStay (storeLines (just c) nothing (λ k. nested ss k c) nothing) ss (cleared c ss)
 clear-stays ss c =
-    let left = keep (λ s. not (nested ss (s .start) c)) ss in
-    let a = kept (λ k. not (nested ss k c)) ss in
-    let g = used-set c 0 left in
-    let stays : (k : ℕ) → nested ss k c ≡ false → not (nested ss k c) ≡ true = λ k e. not-iff (nested ss k c) .1 e in
-    let there : (k : ℕ) → Listed ss k → nested ss k c ≡ false → Listed left k = λ k h e. a .names k ∙ and-iff (not (nested ss k c)) (listed ss k) .1 (stays k e, h) in
+    let g = after-clear c ss in
     record {
-      stay = λ k h e. g .names k ∙ there k h e;
-      come = λ k h _. and-iff (not (nested ss k c)) (listed ss k) .0 (sym (a .names k) ∙ sym (g .names k) ∙ h) .1;
-      parents = λ k h e. g .parents k (there k h e) ∙ ap (λ s. s .parent) (a .lines k (stays k e));
-      totals = λ k h e _. g .totals k (there k h e) ∙ ap (λ s. s .total) (a .lines k (stays k e));
-      useds = λ k h e f. g .elsewhere k (there k h e) (eqb-false k c f) ∙ ap (λ s. s .used) (a .lines k (stays k e));
+      stay = λ k h e. g .names k .1 (h, e);
+      come = λ k h _. g .names k .0 h .0;
+      parents = λ k h e. g .parents k e;
+      totals = λ k h e _. g .totals k e;
+      useds = λ k h e f. ap (λ s. s .used) (g .elsewhere k e (eqb-false k c f));
     }
 
 -- ---- call by call

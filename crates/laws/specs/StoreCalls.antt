@@ -1,31 +1,32 @@
 -- Calls 8 to 11 keep a model sound: rules 2 to 4 by name, and every context still listed. Assumes nothing.
-use mathlib.Core.Bool.{Bool, true, false, not}
+use mathlib.Core.Bool.{false}
 use mathlib.Core.List.{List}
+use mathlib.Core.Logic.{inl}
 use mathlib.Core.Path.{_≡_, refl, sym, _∙_, ap}
 use Prim.Native.Nat.{ℕ, _+_, _-_, _<_, _≤_}
 use native.Mathlib.Decide.{ℕ-discrete}
 use native.Mathlib.Omega.{arith}
 use lib.Dec.{eqb}
 use borrow.Author.Tests.{eq-eqb, ne-eqb}
-use Rattle.lists.specs.Lists.{_∈_, keep, rest}
+use Rattle.lists.specs.Lists.{_∈_, rest}
 use Rattle.lists.specs.Keyed.{insert}
-use Rattle.lists.specs.Tests.{never, false-of, and-iff, unless-iff, not-iff}
+use Rattle.lists.specs.Tests.{never, false-of, and-iff, not-iff}
 use Rattle.lists.specs.ListLaws.{member-any}
 use Rattle.lists.specs.ListChanges.{two-keep}
 use Rattle.lists.specs.KeyedLaws.{has-iff}
 use Rattle.lists.specs.KeyedChanges.{rising-insert, rising-map}
 use Rattle.names.specs.Overhead.{storeOverhead}
 use Rattle.meaning.specs.Model.{Store, Thread, Model, free, storeName, listed, storeOf, rootOf}
-use Rattle.meaning.specs.Nesting.{Nested, child, nested, parentIn}
+use Rattle.meaning.specs.Nesting.{Child, Nested, child, nested, parentIn}
 use Rattle.meaning.specs.Reports.{inUse, notOnlyChild}
 use Rattle.meaning.specs.Facts.{Sound}
 use Rattle.meaning.specs.Changes.{withUsed, withTotal, cleared, withStores}
-use Rattle.meaning.specs.Laws.Nested.{link-child, nested-agrees}
-use Rattle.laws.specs.ByName.{Listed, totalIn, usedIn, named, ByName, by-name, root-start, other-line, named-sound}
-use Rattle.laws.specs.Nesting.{nested-transitive, nested-below, never-in-itself}
+use Rattle.meaning.specs.Laws.Nested.{named, link-child, nested-agrees}
+use Rattle.laws.specs.ByName.{Listed, totalIn, usedIn, ByName, by-name, root-start, other-line, named-sound}
+use Rattle.laws.specs.Nesting.{nested-transitive, nested-below, never-in-itself, not-nested}
 use Rattle.laws.specs.Geometry.{none-at-free}
-use Rattle.laws.specs.StoreChanges.{UsedSet, used-set, resized, kept, added}
-use Rattle.laws.specs.StoreRules.{used-set-by-name, kept-by-name, resized-by-name, added-by-name}
+use Rattle.laws.specs.StoreChanges.{UsedSet, used-set, resized, notIn, after-clear, added}
+use Rattle.laws.specs.StoreRules.{used-set-by-name, cleared-by-name, resized-by-name, added-by-name}
 
 module _ (m : Model) (sound : Sound m) where
   abbrev ss : List Store
@@ -75,54 +76,28 @@ module _ (m : Model) (sound : Sound m) where
         let t = grown-set .totals k i in
         omega arith))
         sound
-        (λ t i. add .names (t .context)
-        ∙ unless-iff (eqb (new .start) (t .context)) (listed grown (t .context)) .1 (λ _. grown-set .names (t .context) ∙ placed t i))
+        (λ t i. add .names (t .context) .1 (inl (grown-set .names (t .context) ∙ placed t i)))
 
   -- ---- call 10
 
   module _ (c : ℕ) (there : Listed ss c) where
-    -- the test of the stores that stay
-    abbrev stays : ℕ → Bool
-    stays k = not (nested ss k c)
-
-    stay : {k : ℕ} → (Nested ss k c → ⊥) → stays k ≡ true
-    stay {k} out = not-iff (nested ss k c) .1 (false-of _ (λ e. out (nested-agrees m sound k c .0 e)))
-
-    stay-out : {k : ℕ} → stays k ≡ true → Nested ss k c → ⊥
-    stay-out {k} t n = never (nested ss k c) (nested-agrees m sound k c .1 n) (not-iff (nested ss k c) .0 t)
-
-    abbrev left : List Store
-    left = keep (λ s. stays (s .start)) ss
-
-    left-by-name : ByName (m .storeArea) left
-    left-by-name =
-        kept-by-name (m .storeArea) ss left by stays (kept stays ss)
-        (stay (λ n. let l = nested-below m sound n in let low = by .lowest c there in omega arith))
-        (λ k h l t.
+    -- of a store that stays the parent stays, and is not c
+    parent-stays : (k : ℕ) → Listed ss k → m .storeArea .start < k → nested ss k c ≡ false → (nested ss (parentIn ss k) c ≡ false) × (parentIn ss k ≡ c → ⊥)
+    parent-stays k h l e =
         let o = by .others k h l in
-        stay (λ n. stay-out t (nested-transitive ss (child (link-child m sound {x = k} refl (omega arith))) n)))
-
-    stays-listed : (k : ℕ) → stays k ≡ true → Listed ss k → Listed left k
-    stays-listed k t h = kept stays ss .names k ∙ and-iff (stays k) (listed ss k) .1 (t, h)
-
-    cleared-by-name : ByName (m .storeArea) (cleared c ss)
-    cleared-by-name =
-        let self : stays c ≡ true = stay (never-in-itself m sound) in
-        let f = by .fits c there in
-        let t = ap (λ s. s .total) (kept stays ss .lines c self) in
-        used-set-by-name (m .storeArea) left (cleared c ss) left-by-name c 0 (used-set c 0 left) (omega arith)
-        (λ k h l e.
-        let i = and-iff (stays k) (listed ss k) .0 (sym (kept stays ss .names k) ∙ h) in
-        let p : parentIn ss k ≡ c = sym (ap (λ s. s .parent) (kept stays ss .lines k (i .0))) ∙ e in
-        let o = by .others k (i .1) l in
-        absurd (stay-out (i .0) (child (link-child m sound p (omega arith)))))
-        (stays-listed c self there)
+        let d : Child ss k (parentIn ss k) = link-child m sound refl (omega arith) in
+        let out : Nested ss k c → ⊥ = λ n. never (nested ss k c) (nested-agrees m sound k c .1 n) e in
+        (not-nested m sound (λ n. out (nested-transitive ss (child d) n)), λ q. out (child (rw q at d)))
 
     pub clear-sound : inUse m c ≡ false → Sound (withStores m (cleared c ss))
     clear-sound idle =
-        named-sound m (cleared c ss) (rising-map storeName _ (λ s. refl) left (two-keep _ _ ss (sound .rule3 .rises))) cleared-by-name sound
-        (λ t i. used-set c 0 left .names (t .context)
-        ∙ stays-listed (t .context) (not-iff _ .1 (false-of _ (λ e. never (inUse m c) (member-any _ (m .threads) i e) idle))) (placed t i))
+        let g = after-clear c ss in
+        named-sound m (cleared c ss) (rising-map storeName _ (λ s. refl) (notIn c ss) (two-keep _ _ ss (sound .rule3 .rises)))
+        (cleared-by-name (m .storeArea) ss (cleared c ss) by c g there (not-nested m sound (never-in-itself m sound))
+        (not-nested m sound (λ n. let l = nested-below m sound n in let low = by .lowest c there in omega arith))
+        parent-stays)
+        sound
+        (λ t i. g .names (t .context) .1 (placed t i, false-of _ (λ e. never (inUse m c) (member-any _ (m .threads) i e) idle)))
 
   -- ---- call 11
 

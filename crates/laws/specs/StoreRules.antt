@@ -1,19 +1,17 @@
 -- The changes of StoreChanges.antt keep rules 2 to 4, said by name, each under what it needs. Assumes nothing.
-use mathlib.Core.Bool.{Bool, true, false}
+use mathlib.Core.Bool.{false}
 use mathlib.Core.List.{List}
 use mathlib.Core.Logic.{_⊎_, inl, inr, ⊎-elim}
 use mathlib.Core.Path.{_≡_, sym, _∙_, ap}
 use Prim.Native.Nat.{ℕ, _+_, _<_, _≤_}
 use native.Mathlib.Decide.{ℕ-discrete}
 use native.Mathlib.Omega.{arith}
-use lib.Dec.{eqb}
-use borrow.Author.Tests.{eqb-true}
-use Rattle.lists.specs.Tests.{tested, never, and-iff, unless-iff}
+use Rattle.lists.specs.Tests.{never}
 use Rattle.names.specs.Overhead.{storeOverhead}
 use Rattle.meaning.specs.Model.{Run, Store, listed, storeOf}
-use Rattle.meaning.specs.Nesting.{parentIn}
+use Rattle.meaning.specs.Nesting.{nested, parentIn}
 use Rattle.laws.specs.ByName.{Listed, totalIn, usedIn, Hung, ByName}
-use Rattle.laws.specs.StoreChanges.{UsedSet, Resized, Kept, Added}
+use Rattle.laws.specs.StoreChanges.{UsedSet, Resized, Cleared, Added}
 
 module _ (area : Run) (ss after : List Store) (by : ByName area ss) where
   -- another used that the store has room for and that covers its children
@@ -56,40 +54,36 @@ module _ (area : Run) (ss after : List Store) (by : ByName area ss) where
               omega arith;
         }
 
-  -- stores that stay with their parents
-  module _ (q : ℕ → Bool) (g : Kept q ss after) (root : q (area .start) ≡ true)
-      (up : (k : ℕ) → Listed ss k → area .start < k → q k ≡ true → q (parentIn ss k) ≡ true) where
-    stayed : (k : ℕ) → Listed after k → (q k ≡ true) × Listed ss k
-    stayed k h = and-iff (q k) (listed ss k) .0 (sym (g .names k) ∙ h)
-
-    stays : (k : ℕ) → q k ≡ true → Listed ss k → Listed after k
-    stays k t h = g .names k ∙ and-iff (q k) (listed ss k) .1 (t, h)
-
-    pub kept-by-name : ByName area after
-    kept-by-name =
+  -- c emptied: what stays hangs from a store that stays and is not c
+  module _ (c : ℕ) (g : Cleared c ss after) (there : Listed ss c) (self : nested ss c c ≡ false) (root : nested ss (area .start) c ≡ false)
+      (up : (k : ℕ) → Listed ss k → area .start < k → nested ss k c ≡ false → (nested ss (parentIn ss k) c ≡ false) × (parentIn ss k ≡ c → ⊥)) where
+    pub cleared-by-name : ByName area after
+    cleared-by-name =
         record {
-          root = stays (area .start) root (by .root);
-          extent = ap (λ s. s .total) (g .lines (area .start) root) ∙ by .extent;
-          itself = ap (λ s. s .parent) (g .lines (area .start) root) ∙ by .itself;
-          lowest = λ k h. by .lowest k (stayed k h .1);
+          root = g .names (area .start) .1 (by .root, root);
+          extent = g .totals (area .start) root ∙ by .extent;
+          itself = g .parents (area .start) root ∙ by .itself;
+          lowest = λ k h. by .lowest k (g .names k .0 h .0);
           others = λ k h l.
-              let i = stayed k h in
-              let o = by .others k (i .1) l in
-              let x = up k (i .1) l (i .0) in
-              let p = ap (λ s. s .parent) (g .lines k (i .0)) in
-              let t = ap (λ s. s .total) (g .lines k (i .0)) in
-              let u = ap (usedIn after) p ∙ ap (λ s. s .used) (g .lines (parentIn ss k) x) in
-              record { parent = ap (listed after) p ∙ stays (parentIn ss k) x (o .parent); least = omega arith; low = omega arith; high = omega arith };
-          fits = λ k h. let i = stayed k h in
-              let f = by .fits k (i .1) in
-              let t = ap (λ s. s .total) (g .lines k (i .0)) in
-              let u = ap (λ s. s .used) (g .lines k (i .0)) in
-              omega arith;
+              let i = g .names k .0 h in
+              let o = by .others k (i .0) l in
+              let x = up k (i .0) l (i .1) in
+              let p = g .parents k (i .1) in
+              let t = g .totals k (i .1) in
+              let u = ap (usedIn after) p ∙ ap (λ s. s .used) (g .elsewhere (parentIn ss k) (x .0) (x .1)) in
+              record { parent = ap (listed after) p ∙ g .names (parentIn ss k) .1 (o .parent, x .0); least = omega arith; low = omega arith; high = omega arith };
+          fits = λ k h. let i = g .names k .0 h in
+              let f = by .fits k (i .0) in
+              let t = g .totals k (i .1) in
+              elim (ℕ-discrete k c) [
+                | yes e ↦ omega (arith, ap (usedIn after) e, g .here there self)
+                | no d ↦ omega (arith, ap (λ s. s .used) (g .elsewhere k (i .1) d))
+              ];
           apart = λ a b h i l e k.
-              let v = stayed a h in
-              let w = stayed b i in
-              let t = ap (λ s. s .total) (g .lines a (v .0)) in
-              let z = by .apart a b (v .1) (w .1) l (sym (ap (λ s. s .parent) (g .lines a (v .0))) ∙ e ∙ ap (λ s. s .parent) (g .lines b (w .0))) k in
+              let v = g .names a .0 h in
+              let w = g .names b .0 i in
+              let t = g .totals a (v .1) in
+              let z = by .apart a b (v .0) (w .0) l (sym (g .parents a (v .1)) ∙ e ∙ g .parents b (w .1)) k in
               omega arith;
         }
 
@@ -160,14 +154,7 @@ module _ (area : Run) (ss after : List Store) (by : ByName area ss) where
     old k h = g .elsewhere k (λ e. never (listed ss k) h (rw e at fresh))
 
     old-listed : (k : ℕ) → Listed ss k → Listed after k
-    old-listed k h = g .names k ∙ unless-iff (eqb (new .start) k) (listed ss k) .1 (λ _. h)
-
-    -- a store listed after is the new one, or was listed before
-    which : (k : ℕ) → Listed after k → (new .start ≡ k) ⊎ Listed ss k
-    which k h = elim (tested (eqb (new .start) k)) [
-      | inl e ↦ inl (eqb-true (new .start) k e)
-      | inr e ↦ inr (unless-iff (eqb (new .start) k) (listed ss k) .0 (sym (g .names k) ∙ h) e)
-    ]
+    old-listed k h = g .names k .1 (inl h)
 
     new-hung : Hung after (new .start)
     new-hung =
@@ -184,17 +171,17 @@ module _ (area : Run) (ss after : List Store) (by : ByName area ss) where
         let u = ap (usedIn after) p ∙ ap (λ s. s .used) (old (parentIn ss k) (o .parent)) in
         record { parent = ap (listed after) p ∙ old-listed (parentIn ss k) (o .parent); least = omega arith; low = omega arith; high = omega arith }
 
-    added-apart : (a b : ℕ) → (new .start ≡ a) ⊎ Listed ss a → (new .start ≡ b) ⊎ Listed ss b → area .start < a
+    added-apart : (a b : ℕ) → Listed ss a ⊎ (a ≡ new .start) → Listed ss b ⊎ (b ≡ new .start) → area .start < a
         → parentIn after a ≡ parentIn after b → a < b → a + totalIn after a ≤ b
-    added-apart a b (inl e) (inl f) l q k = absurd (omega arith)
-    added-apart a b (inl e) (inr i) l q k =
-        let z = behind b i (omega arith) (sym (ap (λ s. s .parent) (old b i)) ∙ sym q ∙ sym (ap (parentIn after) e) ∙ ap (λ s. s .parent) (g .here)) in
+    added-apart a b (inr e) (inr f) l q k = absurd (omega arith)
+    added-apart a b (inr e) (inl i) l q k =
+        let z = behind b i (omega arith) (sym (ap (λ s. s .parent) (old b i)) ∙ sym q ∙ ap (parentIn after) e ∙ ap (λ s. s .parent) (g .here)) in
         absurd (omega arith)
-    added-apart a b (inr h) (inl f) l q k =
-        let z = behind a h l (sym (ap (λ s. s .parent) (old a h)) ∙ q ∙ sym (ap (parentIn after) f) ∙ ap (λ s. s .parent) (g .here)) in
+    added-apart a b (inl h) (inr f) l q k =
+        let z = behind a h l (sym (ap (λ s. s .parent) (old a h)) ∙ q ∙ ap (parentIn after) f ∙ ap (λ s. s .parent) (g .here)) in
         let t = ap (λ s. s .total) (old a h) in
         omega arith
-    added-apart a b (inr h) (inr i) l q k =
+    added-apart a b (inl h) (inl i) l q k =
         let z = by .apart a b h i l (sym (ap (λ s. s .parent) (old a h)) ∙ q ∙ ap (λ s. s .parent) (old b i)) k in
         let t = ap (λ s. s .total) (old a h) in
         omega arith
@@ -205,11 +192,11 @@ module _ (area : Run) (ss after : List Store) (by : ByName area ss) where
           root = old-listed (area .start) (by .root);
           extent = ap (λ s. s .total) (old (area .start) (by .root)) ∙ by .extent;
           itself = ap (λ s. s .parent) (old (area .start) (by .root)) ∙ by .itself;
-          lowest = λ k h. let p = by .lowest (new .parent) there in ⊎-elim (λ e. omega arith) (by .lowest k) (which k h);
-          others = λ k h l. ⊎-elim (λ e. rw (← e) new-hung) (λ i. old-hung k i l) (which k h);
+          lowest = λ k h. let p = by .lowest (new .parent) there in ⊎-elim (by .lowest k) (λ e. omega arith) (g .names k .0 h);
+          others = λ k h l. ⊎-elim (λ i. old-hung k i l) (λ e. rw e new-hung) (g .names k .0 h);
           fits = λ k h. ⊎-elim
-              (λ e. omega (arith, fit, ap (usedIn after) e, ap (totalIn after) e, ap (λ s. s .used) (g .here), ap (λ s. s .total) (g .here)))
               (λ i. let f = by .fits k i in omega (arith, ap (λ s. s .used) (old k i), ap (λ s. s .total) (old k i)))
-              (which k h);
-          apart = λ a b h i l q k. added-apart a b (which a h) (which b i) l q k;
+              (λ e. omega (arith, fit, ap (usedIn after) e, ap (totalIn after) e, ap (λ s. s .used) (g .here), ap (λ s. s .total) (g .here)))
+              (g .names k .0 h);
+          apart = λ a b h i. added-apart a b (g .names a .0 h) (g .names b .0 i);
         }

@@ -18,9 +18,9 @@ use Rattle.meaning.specs.Changes.{withContext, placed, withThreads}
 use Rattle.laws.specs.Frames.{sound-with-threads}
 
 module _ (m : Model) (sound : Sound m) (t s : ℕ) (there : listed (m .stores) s ≡ true) where
-  context-listed : (x : Thread) → Has storeName (m .stores) (x .context)
+  new-context-listed : (x : Thread) → Has storeName (m .stores) (x .context)
       → Has storeName (m .stores) (if eqb (x .identifier) t then s else x .context)
-  context-listed x h = elim (tested (eqb (x .identifier) t)) [
+  new-context-listed x h = elim (tested (eqb (x .identifier) t)) [
     | inl e ↦ rw e (has-iff storeName (m .stores) s .0 there)
     | inr e ↦ rw e h
   ]
@@ -32,7 +32,7 @@ module _ (m : Model) (sound : Sound m) (t s : ℕ) (there : listed (m .stores) s
       (record {
         rises = rising-map threadName _ (λ x. refl) (m .threads) (sound .rule5 .rises);
         placed = λ y i. let o = Memᴰ·of-map _ (m .threads) i in
-            rw (← o .2) (context-listed (o .0) (sound .rule5 .placed (o .0) (o .1)));
+            rw (← o .2) (new-context-listed (o .0) (sound .rule5 .placed (o .0) (o .1)));
       })
 
   -- call 14

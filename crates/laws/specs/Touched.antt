@@ -21,6 +21,7 @@ pub record Touched : Type 0 where
   pub threads : ℕ → Bool
   pub stacks : ℕ → Bool
 
+-- tests of identifiers: none, every one, only s
 abbrev pub nothing : ℕ → Bool
 nothing k = false
 
@@ -30,10 +31,10 @@ anything k = true
 abbrev pub just : ℕ → ℕ → Bool
 just s k = eqb k s
 
-abbrev pub noLine : Touched
+abbrev noLine : Touched
 noLine = record { used = nothing; total = nothing; gone = nothing; made = nothing; threads = nothing; stacks = nothing }
 
-abbrev pub everyLine : Touched
+abbrev everyLine : Touched
 everyLine = record { used = anything; total = anything; gone = anything; made = anything; threads = anything; stacks = anything }
 
 abbrev pub storeLines : (ℕ → Bool) → (ℕ → Bool) → (ℕ → Bool) → (ℕ → Bool) → Touched
@@ -78,7 +79,7 @@ pub record StoresStay (t : Touched) (ss after : List Store) : Type 0 where
   pub totals : (k : ℕ) → Listed ss k → t .gone k ≡ false → t .total k ≡ false → totalIn after k ≡ totalIn ss k
   pub useds : (k : ℕ) → Listed ss k → t .gone k ≡ false → t .used k ≡ false → usedIn after k ≡ usedIn ss k
 
--- So do the stores; threads and stacks that are not touched stay as they are; and where no stack is touched, so does the free run.
+-- The stores stay so; a thread or stack that is not touched stays as it is; and so does the free run, where no stack is touched.
 pub record Stays (t : Touched) (m after : Model) : Type 0 where
   pub stores : StoresStay t (m .stores) (after .stores)
   pub threads : (k : ℕ) → t .threads k ≡ false → SameLine threadName noSuchThread (m .threads) (after .threads) k

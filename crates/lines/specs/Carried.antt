@@ -3,29 +3,15 @@ use mathlib.Core.Bool.{Bool, true, false, _&&_}
 use mathlib.Core.List.{List, [], _∷_}
 use mathlib.Core.Path.{_≡_, refl, sym, _∙_, ap}
 use Prim.Native.Nat.{ℕ, _+_, _≤_, _<_}
-use native.Mathlib.Numerals.{add-one}
-use native.Mathlib.Nat.{min-eq-left}
 use native.Mathlib.Omega.{arith}
-use lib.ListN.{length, drop, getD, drop-of-length-le}
-use lib.Seq.{drop-cons}
+use lib.ListN.{length, drop, getD}
 use Rattle.lists.specs.Lists.{sum}
-use Rattle.lines.specs.Shape.{Shape, live, live-length, live-at}
+use Rattle.lines.specs.Shape.{Shape, live, from-here, from-end}
 
 -- each element passes the test with the number that the one before it leaves, the first with e
 unfoldable pub chained : {A : Type 0} (p : ℕ → A → Bool) (leaves : A → ℕ) → ℕ → List A → Bool
 chained p leaves e [] = true
 chained p leaves e (x ∷ l) = p e x && chained p leaves (leaves x) l
-
--- a list from i on is its element there and what follows
-module _ {A B : Type 0} (σ : Shape A B) (n : ℕ) (ls : List A) (short : n ≤ length ls) where
-  long : length (live σ n ls) ≡ n
-  long = live-length σ n ls ∙ min-eq-left short
-
-  here : (i : ℕ) → i < n → drop i (live σ n ls) ≡ (σ .view (getD ls i (σ .zeros)) ∷ drop (i + 1) (live σ n ls))
-  here i h = rw (drop-cons (live σ n ls) i (σ .view (σ .zeros)) (omega (arith, long)), live-at σ n ls i h, add-one)
-
-  past : (i : ℕ) → n ≤ i → drop i (live σ n ls) ≡ []
-  past i h = drop-of-length-le (live σ n ls) {i = i} (omega (arith, long))
 
 -- ---- a chained test of the first n lines
 
@@ -40,15 +26,15 @@ module _ {A B : Type 0} (σ : Shape A B) (p : ℕ → B → Bool) (leaves : B �
 
     pub chain-stop : (e i : ℕ) → i < n → p e (σ .view (getD ls i (σ .zeros))) ≡ false → Chained e i → false ≡ chained p leaves first (live σ n ls)
     unfolding chained
-    chain-stop e i h q c = sym (c ∙ rw (here σ n ls short i h, q))
+    chain-stop e i h q c = sym (c ∙ rw (from-here σ n ls short i h, q))
 
     pub chain-more : (e i d : ℕ) → i < n → p e (σ .view (getD ls i (σ .zeros))) ≡ true → d ≡ leaves (σ .view (getD ls i (σ .zeros))) → Chained e i → Chained d (i + 1)
     unfolding chained
-    chain-more e i d h q w c = c ∙ rw (here σ n ls short i h, q, w)
+    chain-more e i d h q w c = c ∙ rw (from-here σ n ls short i h, q, w)
 
     pub chain-end : (e i : ℕ) → n ≤ i → Chained e i → true ≡ chained p leaves first (live σ n ls)
     unfolding chained
-    chain-end e i h c = sym (c ∙ rw (past σ n ls short i h))
+    chain-end e i h c = sym (c ∙ rw (from-end σ n ls short i h))
 
 -- ---- a sum over the first n lines, from a first number on
 
@@ -63,8 +49,8 @@ module _ {A B : Type 0} (σ : Shape A B) (f : B → ℕ) (first n : ℕ) (ls : L
 
     pub sum-more : (s i : ℕ) → i < n → Summed s i → Summed (s + f (σ .view (getD ls i (σ .zeros)))) (i + 1)
     sum-more s i h c =
-        let e = ap (sum f) (here σ n ls short i h) in
+        let e = ap (sum f) (from-here σ n ls short i h) in
         omega arith
 
     pub sum-end : (s i : ℕ) → n ≤ i → Summed s i → s ≡ sum f (live σ n ls) + first
-    sum-end s i h c = let e = ap (sum f) (past σ n ls short i h) in omega arith
+    sum-end s i h c = let e = ap (sum f) (from-end σ n ls short i h) in omega arith

@@ -1,17 +1,12 @@
 -- An array of zeros that a loop fills with the lines of a list, from the front. Assumes nothing.
-use mathlib.Core.List.{List, [], _∷_, _++_, map}
-use mathlib.Core.Path.{_≡_, refl, sym, _∙_, ap}
+use mathlib.Core.List.{List, [], _∷_, _++_, map, map-append}
+use mathlib.Core.Path.{_≡_, sym, _∙_, ap}
 use Prim.Native.Nat.{ℕ, suc, _+_, _-_, _≤_, _<_}
 use native.Mathlib.Numerals.{add-one}
-use native.Mathlib.Nat.{min-eq-left}
 use native.Mathlib.Omega.{arith}
 use lib.ListN.{length, take, set, getD, List·getD-map, replicate, length-map, length-append}
 use lib.Seq.{append-snoc, take-suc, take-all, set-at, length-take-le}
-use Rattle.lines.specs.Shape.{Shape, live, pad, live-length, live-at}
-
-map-append : {A B : Type 0} (f : A → B) (s t : List A) → map f (s ++ t) ≡ map f s ++ map f t
-map-append f [] t = refl
-map-append f (x ∷ s) t = ap (λ l. f x ∷ l) (map-append f s t)
+use Rattle.lines.specs.Shape.{Shape, live, pad, live-full, live-at}
 
 module _ {A B : Type 0} (σ : Shape A B) where
   -- nothing written yet
@@ -41,7 +36,7 @@ module _ {A B : Type 0} (σ : Shape A B) where
 
 module _ {A B : Type 0} (σ : Shape A B) (f : B → B) (n : ℕ) (ls : List A) (short : n ≤ length ls) (room : n ≤ σ .limit) where
   long : length (map f (live σ n ls)) ≡ n
-  long = length-map (live σ n ls) f ∙ live-length σ n ls ∙ min-eq-left short
+  long = length-map (live σ n ls) f ∙ live-full σ n ls short
 
   pub each-more : (out : List A) (i : ℕ) (v : A) → i < n → v ≡ σ .back (f (σ .view (getD ls i (σ .zeros)))) → out ≡ pad σ (take i (map f (live σ n ls)))
       → set out i v ≡ pad σ (take (i + 1) (map f (live σ n ls)))

@@ -5,7 +5,6 @@ use mathlib.Core.Logic.{inl, inr}
 use mathlib.Core.Path.{_≡_, refl, sym, _∙_, ap}
 use Prim.Native.Nat.{ℕ, zero, suc, _+_, _≤_, _<_, min}
 use native.Mathlib.Decide.{decLt, ℕ-discrete}
-use native.Mathlib.Nat.{min-eq-left}
 use native.Mathlib.Omega.{arith}
 use lib.Dec.{ltb, eqb}
 use lib.ListN.{length, getD}
@@ -14,8 +13,9 @@ use Rattle.lists.specs.Lists.{_∈_}
 use Rattle.lists.specs.Keyed.{has, rising, Rising}
 use Rattle.lists.specs.KeyedLaws.{member-has, rising-iff}
 use Rattle.lists.specs.Tests.{tested}
-use Rattle.lines.specs.Shape.{Shape, live, live-length, live-at}
+use Rattle.lines.specs.Shape.{Shape, live, live-full, live-at}
 use Rattle.lines.specs.Search.{place, place-most, has-place}
+use Rattle.lines.specs.Rising.{keyAt}
 use Rattle.lines.specs.Lookup.{lines-read, lines-count}
 
 module _ {A : Type 0} where
@@ -57,17 +57,14 @@ module _ {A B : Type 0} (σ : Shape A B) (key : B → ℕ) (n : ℕ) (ls : List 
   abbrev d : B
   d = σ .view (σ .zeros)
 
-  -- the key of the line at i, and the place of k
-  abbrev keyAt : ℕ → ℕ
-  keyAt i = key (σ .view (getD ls i (σ .zeros)))
-
+  -- the place of k
   abbrev where-k : ℕ
   where-k = place (λ x. eqb (key x) k) l
 
   long : length l ≡ n
-  long = live-length σ n ls ∙ min-eq-left short
+  long = live-full σ n ls short
 
-  key-here : (i : ℕ) → i < n → key (getD l i d) ≡ keyAt i
+  key-here : (i : ℕ) → i < n → key (getD l i d) ≡ keyAt σ key ls i
   key-here i h = ap key (live-at σ n ls i h)
 
   rises : rising key l ≡ true → Rising key l
@@ -84,16 +81,16 @@ module _ {A B : Type 0} (σ : Shape A B) (key : B → ℕ) (n : ℕ) (ls : List 
   stands : where-k < length l → key (getD l where-k d) ≡ k
   stands h = place-key key l k d h
 
-  lower : Rising key l → (i : ℕ) → i < where-k → where-k < length l → keyAt i < k
+  lower : Rising key l → (i : ℕ) → i < where-k → where-k < length l → keyAt σ key ls i < k
   lower r i h p = let e = stands p in let q = key-here i (omega (arith, long)) in let b = rising-at key l r i where-k d h p in omega arith
 
-  higher : Rising key l → (i : ℕ) → where-k < i → i < n → where-k < length l → k < keyAt i
+  higher : Rising key l → (i : ℕ) → where-k < i → i < n → where-k < length l → k < keyAt σ key ls i
   higher r i h j p = let e = stands p in let q = key-here i j in let b = rising-at key l r where-k i d h (omega (arith, long)) in omega arith
 
-  same : (i : ℕ) → i < n → i ≡ where-k → where-k < length l → keyAt i ≡ k
+  same : (i : ℕ) → i < n → i ≡ where-k → where-k < length l → keyAt σ key ls i ≡ k
   same i h e p = sym (key-here i h) ∙ ap (λ j. key (getD l j d)) e ∙ stands p
 
-  pub halves-hit : (i : ℕ) → i < n → keyAt i ≡ k → Halved key l k i
+  pub halves-hit : (i : ℕ) → i < n → keyAt σ key ls i ≡ k → Halved key l k i
   halves-hit i h e =
       let found : has key l k ≡ true = rw (← e, ← key-here i h) (member-has key l (at-in l i d (omega (arith, long)))) in
       record {
@@ -109,7 +106,7 @@ module _ {A B : Type 0} (σ : Shape A B) (key : B → ℕ) (n : ℕ) (ls : List 
             ];
       }
 
-  pub halves-low : (lo hi i : ℕ) → i < n → keyAt i < k → Between key l k lo hi → Between key l k (i + 1) hi
+  pub halves-low : (lo hi i : ℕ) → i < n → keyAt σ key ls i < k → Between key l k lo hi → Between key l k (i + 1) hi
   halves-low lo hi i h a b r p =
       let w = b r p in
       elim (decLt i where-k) [
@@ -120,7 +117,7 @@ module _ {A B : Type 0} (σ : Shape A B) (key : B → ℕ) (n : ℕ) (ls : List 
         ]
       ]
 
-  pub halves-high : (lo hi i : ℕ) → i < n → k < keyAt i → Between key l k lo hi → Between key l k lo i
+  pub halves-high : (lo hi i : ℕ) → i < n → k < keyAt σ key ls i → Between key l k lo hi → Between key l k lo i
   halves-high lo hi i h a b r p =
       let w = b r p in
       elim (decLt where-k i) [

@@ -4,14 +4,13 @@ use mathlib.Core.List.{List, [], _∷_, map}
 use mathlib.Core.Logic.{inl, inr}
 use mathlib.Core.Path.{_≡_, refl, sym, _∙_, ap}
 use Prim.Native.Nat.{ℕ, suc, _+_, _≤_, _<_}
-use native.Mathlib.Nat.{min-eq-left}
 use native.Mathlib.Omega.{arith}
 use lib.Dec.{ltb, eqb}
 use lib.ListN.{length, take, set, getD, replicate, List·getD-map, length-map}
 use borrow.Author.Tests.{eqb-true}
 use Rattle.lists.specs.Keyed.{has, risingFrom, rising}
 use Rattle.lists.specs.Tests.{tested}
-use Rattle.lines.specs.Shape.{Shape, live, pad, live-length, live-pad, live-at}
+use Rattle.lines.specs.Shape.{Shape, live, pad, live-full, live-pad, live-at}
 use Rattle.lines.specs.Search.{place}
 use Rattle.lines.specs.Fill.{pad-nothing, pad-next, pad-whole}
 use Rattle.lines.specs.Halves.{Halved}
@@ -34,7 +33,7 @@ module _ {B : Type 0} (key : B → ℕ) where
     | inr e ↦ rw e (ap suc (place-keys l k))
   ]
 
-  pub has-keys : (l : List B) (k : ℕ) → has number (map key l) k ≡ has key l k
+  has-keys : (l : List B) (k : ℕ) → has number (map key l) k ≡ has key l k
   has-keys [] k = refl
   has-keys (x ∷ l) k = ap (λ b. eqb (key x) k || b) (has-keys l k)
 
@@ -58,7 +57,7 @@ module _ {A B : Type 0} (σ : Shape A B) (key : B → ℕ) (n : ℕ) (ls : List 
   l = live σ n ls
 
   long : length (map key l) ≡ n
-  long = length-map l key ∙ live-length σ n ls ∙ min-eq-left short
+  long = length-map l key ∙ live-full σ n ls short
 
   -- ---- a loop that copies the keys
 
@@ -78,7 +77,7 @@ module _ {A B : Type 0} (σ : Shape A B) (key : B → ℕ) (n : ℕ) (ls : List 
   -- ---- what the copy tells
 
   module _ (ks : List ℕ) (copied : ks ≡ pad (numbers limit) (map key l)) where
-    pub keys-read : live (numbers limit) n ks ≡ map key l
+    keys-read : live (numbers limit) n ks ≡ map key l
     keys-read = ap (live (numbers limit) n) copied ∙ ap (λ m. live (numbers limit) m (pad (numbers limit) (map key l))) (sym long) ∙ live-pad (numbers limit) (map key l)
 
     pub keys-rise : rising key l ≡ true → rising number (live (numbers limit) n ks) ≡ true

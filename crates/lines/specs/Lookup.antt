@@ -1,11 +1,11 @@
 -- What a list in an array tells by key: from the place that a search finds to the list that the lines mean, whatever the count says. Assumes nothing.
 use mathlib.Core.Bool.{Bool}
-use mathlib.Core.List.{List, map}
+use mathlib.Core.List.{List}
 use mathlib.Core.Path.{_≡_, sym, _∙_, ap}
 use Prim.Native.Nat.{ℕ, _+_, _≤_, _<_, min}
 use native.Mathlib.Omega.{arith}
 use lib.Dec.{ltb, eqb}
-use lib.ListN.{length, getD, List·getD-eq-default, length-map}
+use lib.ListN.{length, getD, List·getD-eq-default}
 use borrow.Author.Tests.{le-ltb}
 use Rattle.lists.specs.Keyed.{has, at, insert}
 use Rattle.lists.specs.KeyedLaws.{at-none}
@@ -14,11 +14,7 @@ use Rattle.lines.specs.Shape.{Shape, live, live-length, live-at, live-cl
 use Rattle.lines.specs.Search.{place, place-most, has-place, at-place, insert-place}
 use Rattle.lines.specs.Opened.{opened}
 
--- the length of an array of structs in a struct, as the checker knows it
-pub unmapped : {X Y : Type 0} (f : X → Y) (l : List X) (n : ℕ) → length (map f l) ≡ n → length l ≡ n
-unmapped f l n e = sym (length-map l f) ∙ e
-
--- as many lines as the list is long are as many as the count reads
+-- the length of the list that is read is the count, or the limit where the count is higher
 pub count-read : {A B : Type 0} (σ : Shape A B) (count n : ℕ) (ls : List A) → length ls ≡ σ .limit → n ≡ length (live σ count ls) → n ≡ min count (σ .limit)
 count-read σ count n ls long e = e ∙ live-length σ count ls ∙ ap (min count) long
 

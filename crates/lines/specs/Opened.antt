@@ -1,17 +1,16 @@
 -- The list with one element more at a place, element by element, as a loop writes it. Assumes nothing.
 use mathlib.Core.List.{List, [], _∷_, _++_}
+use mathlib.Core.Logic.{inl, inr}
 use mathlib.Core.Path.{_≡_, refl, _∙_, ap}
 use Prim.Native.Nat.{ℕ, zero, suc, _+_, _-_, _≤_, _<_}
-use native.Mathlib.Nat.{min-eq-left}
 use native.Mathlib.Omega.{arith}
-use Rattle.lists.specs.Choice.{if_then_else_}
-use Rattle.lists.specs.Tests.{tested}
-use Rattle.lines.specs.Shape.{Shape, live, pad, live-length, live-at}
-use Rattle.lines.specs.Fill.{pad-next, pad-whole}
-use mathlib.Core.Logic.{inl, inr}
-use borrow.Author.Tests.{ltb-true, ltb-false, eqb-true, eqb-false}
 use lib.Dec.{ltb, eqb}
 use lib.ListN.{length, take, drop, set, getD, length-append, length-take, length-drop}
+use borrow.Author.Tests.{ltb-true, ltb-false, eqb-true, eqb-false}
+use Rattle.lists.specs.Choice.{if_then_else_}
+use Rattle.lists.specs.Tests.{tested}
+use Rattle.lines.specs.Shape.{Shape, live, pad, live-full, live-at}
+use Rattle.lines.specs.Fill.{pad-next, pad-whole}
 
 module _ {A : Type 0} where
   -- x at the place i
@@ -22,18 +21,18 @@ module _ {A : Type 0} where
   abbrev pub openedAt : A → ℕ → A → List A → ℕ → A
   openedAt d i x l j = if ltb j i then getD l j d else (if eqb j i then x else getD l (j - 1) d)
 
-  pub opened-length : (i : ℕ) (x : A) (l : List A) → i ≤ length l → length (opened i x l) ≡ length l + 1
+  opened-length : (i : ℕ) (x : A) (l : List A) → i ≤ length l → length (opened i x l) ≡ length l + 1
   unfolding opened
   opened-length i x l h = simp (length-append, length-take, length-drop) (omega arith)
 
-  pub opened-low : (i : ℕ) (x : A) (l : List A) (j : ℕ) (d : A) → j < i → i ≤ length l → getD (opened i x l) j d ≡ getD l j d
+  opened-low : (i : ℕ) (x : A) (l : List A) (j : ℕ) (d : A) → j < i → i ≤ length l → getD (opened i x l) j d ≡ getD l j d
   unfolding opened
   opened-low zero x l j d h k = absurd (omega arith)
   opened-low (suc i) x [] j d h k = absurd (omega arith)
   opened-low (suc i) x (y ∷ l) zero d h k = refl
   opened-low (suc i) x (y ∷ l) (suc j) d h k = opened-low i x l j d (omega arith) (omega arith)
 
-  pub opened-here : (i : ℕ) (x : A) (l : List A) (d : A) → i ≤ length l → getD (opened i x l) i d ≡ x
+  opened-here : (i : ℕ) (x : A) (l : List A) (d : A) → i ≤ length l → getD (opened i x l) i d ≡ x
   unfolding opened
   opened-here zero x l d k = refl
   opened-here (suc i) x [] d k = absurd (omega arith)
@@ -46,7 +45,7 @@ module _ {A : Type 0} where
   opened-after (suc i) x (y ∷ l) zero d h k = absurd (omega arith)
   opened-after (suc i) x (y ∷ l) (suc j) d h k = opened-after i x l j d (omega arith) (omega arith)
 
-  pub opened-high : (i : ℕ) (x : A) (l : List A) (j : ℕ) (d : A) → i < j → i ≤ length l → getD (opened i x l) j d ≡ getD l (j - 1) d
+  opened-high : (i : ℕ) (x : A) (l : List A) (j : ℕ) (d : A) → i < j → i ≤ length l → getD (opened i x l) j d ≡ getD l (j - 1) d
   opened-high i x l zero d h k = absurd (omega arith)
   opened-high i x l (suc j) d h k = let e : suc j - 1 ≡ j = omega arith in rw e (opened-after i x l j d (omega arith) k)
 
@@ -57,7 +56,7 @@ module _ {A B : Type 0} (σ : Shape A B) (n : ℕ) (ls : List A) (short : n ≤ 
   target = opened at (σ .view x) (live σ n ls)
 
   long : length (live σ n ls) ≡ n
-  long = live-length σ n ls ∙ min-eq-left short
+  long = live-full σ n ls short
 
   -- the target's line at j is read off the lines
   read-off : (j : ℕ) → j ≤ n → getD target j (σ .view (σ .zeros)) ≡ σ .view (openedAt (σ .zeros) at x ls j)

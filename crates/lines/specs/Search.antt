@@ -4,17 +4,14 @@ use mathlib.Core.List.{List, [], _∷_, _++_}
 use mathlib.Core.Logic.{inl, inr}
 use mathlib.Core.Path.{_≡_, refl, sym, _∙_, ap}
 use Prim.Native.Nat.{ℕ, suc, _+_, _≤_, _<_}
-use native.Mathlib.Numerals.{add-one}
-use native.Mathlib.Nat.{min-eq-left}
 use native.Mathlib.Omega.{arith}
 use lib.Dec.{ltb, eqb, leb·suc-suc}
-use lib.ListN.{length, take, drop, getD, drop-of-length-le}
-use lib.Seq.{drop-cons}
+use lib.ListN.{length, take, drop, getD}
 use borrow.Author.Tests.{lt-ltb}
 use Rattle.lists.specs.Choice.{if_then_else_}
 use Rattle.lists.specs.Keyed.{has, at, insert}
 use Rattle.lists.specs.Tests.{tested}
-use Rattle.lines.specs.Shape.{Shape, live, live-length, live-at}
+use Rattle.lines.specs.Shape.{Shape, live, from-here, from-end}
 
 module _ {A : Type 0} (p : A → Bool) where
   -- how many elements stand before the first that passes the test; all of them where none does
@@ -37,29 +34,22 @@ module _ {A : Type 0} (p : A → Bool) where
 -- ---- a loop over the first n lines of an array
 
 module _ {A B : Type 0} (σ : Shape A B) (p : B → Bool) (n : ℕ) (ls : List A) (short : n ≤ length ls) where
-  long : length (live σ n ls) ≡ n
-  long = live-length σ n ls ∙ min-eq-left short
-
   pub seek-start : Sought p (live σ n ls) 0
   seek-start = omega arith
 
   pub seek-hit : (i : ℕ) → i < n → p (σ .view (getD ls i (σ .zeros))) ≡ true → Sought p (live σ n ls) i → i ≡ place p (live σ n ls)
   unfolding place
-  seek-hit i h e s =
-      let q : p (getD (live σ n ls) i (σ .view (σ .zeros))) ≡ true = rw (live-at σ n ls i h) e in
-      let z : place p (drop i (live σ n ls)) ≡ 0 = rw (drop-cons (live σ n ls) i (σ .view (σ .zeros)) (omega (arith, long)), q) in
-      omega arith
+  seek-hit i h e s = let z : place p (drop i (live σ n ls)) ≡ 0 = rw (from-here σ n ls short i h, e) in omega arith
 
   pub seek-miss : (i : ℕ) → i < n → p (σ .view (getD ls i (σ .zeros))) ≡ false → Sought p (live σ n ls) i → Sought p (live σ n ls) (i + 1)
   unfolding place
   seek-miss i h e s =
-      let q : p (getD (live σ n ls) i (σ .view (σ .zeros))) ≡ false = rw (live-at σ n ls i h) e in
-      let z : place p (drop i (live σ n ls)) ≡ suc (place p (drop (i + 1) (live σ n ls))) = rw (drop-cons (live σ n ls) i (σ .view (σ .zeros)) (omega (arith, long)), q, add-one) in
+      let z : place p (drop i (live σ n ls)) ≡ suc (place p (drop (i + 1) (live σ n ls))) = rw (from-here σ n ls short i h, e) in
       omega arith
 
   pub seek-end : (i : ℕ) → n ≤ i → Sought p (live σ n ls) i → i ≡ place p (live σ n ls)
   unfolding place
-  seek-end i h s = let z : place p (drop i (live σ n ls)) ≡ 0 = rw (drop-of-length-le (live σ n ls) {i = i} (omega (arith, long))) in omega arith
+  seek-end i h s = let z : place p (drop i (live σ n ls)) ≡ 0 = rw (from-end σ n ls short i h) in omega arith
 
 -- ---- looking up by key
 

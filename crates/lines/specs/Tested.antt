@@ -1,17 +1,13 @@
--- Loops that test the lines from the front. Assumes nothing.
+-- Loops that test each line, of a whole list or from a place on, and answer as soon as one decides. Assumes nothing.
 use mathlib.Core.Bool.{Bool, true, false}
-use mathlib.Core.List.{List, _∷_}
+use mathlib.Core.List.{List}
 use mathlib.Core.Path.{_≡_, sym, _∙_, ap}
-use Prim.Native.Nat.{ℕ, _+_, _-_, _≤_, _<_}
+use Prim.Native.Nat.{ℕ, _+_, _≤_, _<_}
 use native.Mathlib.Numerals.{add-one}
-use native.Mathlib.Nat.{min-eq-left}
-use native.Mathlib.Omega.{arith}
 use lib.ListN.{length, drop, getD, drop-of-length-le}
 use lib.Seq.{drop-cons}
-use borrow.Author.Tests.{lt-ltb, le-ltb}
-use Rattle.lists.specs.Lists.{all, any}
-use Rattle.lists.specs.Keyed.{risingFrom, rising}
-use Rattle.lines.specs.Shape.{Shape, live, live-length, live-at}
+use Rattle.lists.specs.Lists.{all, any, rest}
+use Rattle.lines.specs.Shape.{Shape, live, rest-drop, from-here, from-end}
 
 -- ---- every element from i on passes a test
 
@@ -37,37 +33,39 @@ module _ {A : Type 0} (p : A → Bool) (l : List A) where
   pub any-end : (i : ℕ) → length l ≤ i → any p (drop i l) ≡ false
   any-end i h = rw (drop-of-length-le l h)
 
--- ---- the keys of the first n lines rise
+-- ---- the first n lines of an array, from a place on
 
-module _ {A B : Type 0} (σ : Shape A B) (key : B → ℕ) (n : ℕ) (ls : List A) where
-  -- the key of the line at i
-  abbrev pub keyAt : ℕ → ℕ
-  keyAt i = key (σ .view (getD ls i (σ .zeros)))
+-- a loop that has come to i undecided: its answer q is what the lines from i on give
+abbrev pub AllFrom : {A B : Type 0} → Shape A B → (B → Bool) → ℕ → List A → Bool → ℕ → Type 0
+AllFrom σ p n ls q i = q ≡ all p (drop i (live σ n ls))
 
-  -- the keys rise as far as the line before i: they all rise if they do so from there
-  abbrev pub Rose : ℕ → Type 0
-  Rose i = rising key (live σ n ls) ≡ risingFrom key (keyAt (i - 1)) (drop i (live σ n ls))
+abbrev pub AnyFrom : {A B : Type 0} → Shape A B → (B → Bool) → ℕ → List A → Bool → ℕ → Type 0
+AnyFrom σ p n ls q i = q ≡ any p (drop i (live σ n ls))
 
-  module _ (short : n ≤ length ls) where
-    long : length (live σ n ls) ≡ n
-    long = live-length σ n ls ∙ min-eq-left short
+module _ {A B : Type 0} (σ : Shape A B) (n : ℕ) (ls : List A) (short : n ≤ length ls) where
+  module _ (p : B → Bool) where
+    pub all-from-second : AllFrom σ p n ls (all p (rest (live σ n ls))) 1
+    all-from-second = ap (all p) (rest-drop (live σ n ls))
 
-    next : (i : ℕ) → i < n → (rest : List B → Bool) → rest (drop i (live σ n ls)) ≡ rest (σ .view (getD ls i (σ .zeros)) ∷ drop (i + 1) (live σ n ls))
-    next i h rest = rw (drop-cons (live σ n ls) i (σ .view (σ .zeros)) (omega (arith, long)), live-at σ n ls i h, add-one)
+    pub any-from-second : AnyFrom σ p n ls (any p (rest (live σ n ls))) 1
+    any-from-second = ap (any p) (rest-drop (live σ n ls))
 
-    pub rise-none : n ≡ 0 → true ≡ rising key (live σ n ls)
-    rise-none e = ap (rising key) (sym (drop-of-length-le (live σ n ls) {i = 0} (omega (arith, long))))
+  -- b is what the code finds of the line at i
+  module _ (p : B → Bool) (q : Bool) where
+    pub all-from-more : (i : ℕ) → i < n → (b : Bool) → b ≡ p (σ .view (getD ls i (σ .zeros))) → b ≡ true → AllFrom σ p n ls q i → AllFrom σ p n ls q (i + 1)
+    all-from-more i h b e t s = s ∙ rw (from-here σ n ls short i h, sym e ∙ t)
 
-    pub rise-start : 0 < n → Rose 1
-    rise-start h = next 0 h (rising key)
+    pub all-from-stop : (i : ℕ) → i < n → (b : Bool) → b ≡ p (σ .view (getD ls i (σ .zeros))) → b ≡ false → AllFrom σ p n ls q i → false ≡ q
+    all-from-stop i h b e f s = sym (s ∙ rw (from-here σ n ls short i h, sym e ∙ f))
 
-    pub rise-stop : (i : ℕ) → i < n → keyAt i ≤ keyAt (i - 1) → Rose i → false ≡ rising key (live σ n ls)
-    rise-stop i h e r = sym (r ∙ next i h (risingFrom key (keyAt (i - 1))) ∙ rw (le-ltb (keyAt (i - 1)) (keyAt i) e))
+    pub all-from-end : (i : ℕ) → n ≤ i → AllFrom σ p n ls q i → true ≡ q
+    all-from-end i h s = sym (s ∙ rw (from-end σ n ls short i h))
 
-    pub rise-more : (i : ℕ) → i < n → keyAt (i - 1) < keyAt i → Rose i → Rose (i + 1)
-    rise-more i h e r =
-        let back : i + 1 - 1 ≡ i = omega arith in
-        r ∙ next i h (risingFrom key (keyAt (i - 1))) ∙ rw (lt-ltb (keyAt (i - 1)) (keyAt i) e, back)
+    pub any-from-more : (i : ℕ) → i < n → (b : Bool) → b ≡ p (σ .view (getD ls i (σ .zeros))) → b ≡ false → AnyFrom σ p n ls q i → AnyFrom σ p n ls q (i + 1)
+    any-from-more i h b e f s = s ∙ rw (from-here σ n ls short i h, sym e ∙ f)
 
-    pub rise-end : (i : ℕ) → n ≤ i → Rose i → true ≡ rising key (live σ n ls)
-    rise-end i h r = sym (r ∙ ap (risingFrom key (keyAt (i - 1))) (drop-of-length-le (live σ n ls) {i = i} (omega (arith, long))))
+    pub any-from-stop : (i : ℕ) → i < n → (b : Bool) → b ≡ p (σ .view (getD ls i (σ .zeros))) → b ≡ true → AnyFrom σ p n ls q i → true ≡ q
+    any-from-stop i h b e t s = sym (s ∙ rw (from-here σ n ls short i h, sym e ∙ t))
+
+    pub any-from-end : (i : ℕ) → n ≤ i → AnyFrom σ p n ls q i → false ≡ q
+    any-from-end i h s = sym (s ∙ rw (from-end σ n ls short i h))

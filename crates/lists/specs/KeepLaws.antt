@@ -1,10 +1,14 @@
--- How keeping some elements and changing each go together: equal lists. Assumes nothing.
+-- How keeping some elements and changing each go together, and keeping goes with the first elements of a list: equal lists. Assumes nothing.
 use mathlib.Core.Bool.{Bool, true, false}
-use mathlib.Core.List.{List, [], _∷_, map, List·Memᴰ·head as here, List·Memᴰ·tail as there}
+use mathlib.Core.List.{List, [], _∷_, _++_, map, append-nil, List·Memᴰ·head as here, List·Memᴰ·tail as there}
 use mathlib.Core.Logic.{inl, inr}
-use mathlib.Core.Path.{_≡_, refl}
-use Rattle.lists.specs.Lists.{_∈_, any, keep, rest}
-use Rattle.lists.specs.Tests.{tested, never, or-false-iff}
+use mathlib.Core.Path.{_≡_, refl, ap}
+use Prim.Native.Nat.{ℕ, _+_, _<_}
+use native.Mathlib.Numerals.{add-one}
+use lib.ListN.{length, take, getD}
+use lib.Seq.{take-suc}
+use Rattle.lists.specs.Lists.{_∈_, keep, rest}
+use Rattle.lists.specs.Tests.{tested}
 
 module _ {A : Type 0} where
   -- changes that agree on the elements
@@ -26,6 +30,11 @@ module _ {A : Type 0} where
   pub keep-agree : (p q : A → Bool) (l : List A) → ((x : A) → x ∈ l → p x ≡ q x) → keep p l ≡ keep q l
   keep-agree p q [] h = refl
   keep-agree p q (x ∷ l) h = rw (h x (here refl), keep-agree p q l (λ y m. h y (there m)))
+
+  -- a test that each element passes
+  pub keep-all : (p : A → Bool) (l : List A) → ((x : A) → x ∈ l → p x ≡ true) → keep p l ≡ l
+  keep-all p [] h = refl
+  keep-all p (x ∷ l) h = rw (h x (here refl), keep-all p l (λ y m. h y (there m)))
 
   pub keep-swap : (p q : A → Bool) (l : List A) → keep p (keep q l) ≡ keep q (keep p l)
   keep-swap p q [] = refl
@@ -59,32 +68,20 @@ module _ {A : Type 0} where
     | inr e ↦ rw (s x, e, keep-map p f s l)
   ]
 
-  -- what no element passes, none of the kept ones passes, nor the changed ones where the test does not see the change
-  any-keep : (p q : A → Bool) (l : List A) → any p l ≡ false → any p (keep q l) ≡ false
-  any-keep p q [] h = refl
-  any-keep p q (x ∷ l) h = elim (tested (p x)) [
-    | inl e ↦ never true refl (rw e at h)
-    | inr e ↦ elim (tested (q x)) [
-      | inl f ↦ rw (f, e, any-keep p q l (rw e at h))
-      | inr f ↦ rw (f, any-keep p q l (rw e at h))
-    ]
-  ]
-
-  pub any-map : (p : A → Bool) (f : A → A) → ((x : A) → p (f x) ≡ p x) → (l : List A) → any p (map f l) ≡ any p l
-  any-map p f s [] = refl
-  any-map p f s (x ∷ l) = rw (s x, any-map p f s l)
-
   pub rest-map : (f : A → A) (l : List A) → rest (map f l) ≡ map f (rest l)
   rest-map f [] = refl
   rest-map f (x ∷ l) = refl
 
-  any-rest : (p : A → Bool) (l : List A) → any p l ≡ false → any p (rest l) ≡ false
-  any-rest p [] h = h
-  any-rest p (x ∷ l) h = or-false-iff (p x) (any p l) .0 h .1
-
-  pub any-rest-keep : (p q : A → Bool) (l : List A) → any p (rest l) ≡ false → any p (rest (keep q l)) ≡ false
-  any-rest-keep p q [] h = h
-  any-rest-keep p q (x ∷ l) h = elim (tested (q x)) [
-    | inl e ↦ rw e (any-keep p q l h)
-    | inr e ↦ rw e (any-rest p (keep q l) (any-keep p q l h))
+  keep-append : (p : A → Bool) (s t : List A) → keep p (s ++ t) ≡ keep p s ++ keep p t
+  keep-append p [] t = refl
+  keep-append p (x ∷ s) t = elim (tested (p x)) [
+    | inl e ↦ rw e (ap (λ l. x ∷ l) (keep-append p s t))
+    | inr e ↦ rw e (keep-append p s t)
   ]
+
+  -- of one element more, kept or left out
+  pub keep-in : (p : A → Bool) (l : List A) (i : ℕ) (d : A) → i < length l → p (getD l i d) ≡ true → keep p (take (i + 1) l) ≡ keep p (take i l) ++ (getD l i d ∷ [])
+  keep-in p l i d h e = rw (add-one, take-suc l i d, keep-append p (take i l) (getD l i d ∷ []), e)
+
+  pub keep-out : (p : A → Bool) (l : List A) (i : ℕ) (d : A) → i < length l → p (getD l i d) ≡ false → keep p (take (i + 1) l) ≡ keep p (take i l)
+  keep-out p l i d h e = rw (add-one, take-suc l i d, keep-append p (take i l) (getD l i d ∷ []), e) (append-nil (keep p (take i l)))

@@ -37,7 +37,7 @@ module _ {A : Type 0} (key : A → ℕ) where
   rising [] = true
   rising (x ∷ l) = risingFrom (key x) l
 
-  -- the same two as propositions
+  -- has and rising as propositions
   abbrev pub Has : List A → ℕ → Type 0
   Has l k = (x : A) × (x ∈ l) × (key x ≡ k)
 

@@ -1,33 +1,22 @@
 -- What inserting, changing and keeping elements does to a list with keys: which keys it has, what they find, and that it rises. Assumes nothing.
 use mathlib.Core.Bool.{Bool, true, false, not, _&&_, _||_}
 use mathlib.Core.List.{List, [], _∷_, map, List·Memᴰ·head as here, List·Memᴰ·tail as there, List·Memᴰ·not-nil as nowhere, List·Memᴰ·cases-cons as cases-cons}
-use mathlib.Core.Logic.{_⊎_, inl, inr, ⊎-elim}
+use mathlib.Core.Logic.{_↔_, _⊎_, inl, inr, ⊎-elim}
 use mathlib.Core.Path.{_≡_, refl, sym, _∙_, ap}
 use Prim.Native.Nat.{ℕ, _+_, _<_, _≤_}
 use native.Mathlib.Decide.{ℕ-discrete}
 use native.Mathlib.Omega.{arith}
 use lib.Dec.{ltb, eqb}
 use lib.ListN.{length}
-use borrow.Author.Tests.{ltb-true, ltb-false, eqb-true, eq-eqb, ne-eqb}
+use borrow.Author.Tests.{ltb-true, ltb-false, eqb-true, eqb-false, eq-eqb, ne-eqb}
 use Rattle.lists.specs.Lists.{_∈_, AllTwo, keep, sum}
 use Rattle.lists.specs.Keyed.{has, at, insert, remove, Rising}
-use Rattle.lists.specs.Tests.{tested, never}
+use Rattle.lists.specs.Tests.{tested, never, and-iff, unless-iff, not-iff}
 use Rattle.lists.specs.KeyedLaws.{member-has}
-use Rattle.lists.specs.ListChanges.{keep-all, two-map}
+use Rattle.lists.specs.ListChanges.{two-map}
+use Rattle.lists.specs.KeepLaws.{keep-all}
 
 module _ {A : Type 0} (key : A → ℕ) where
-  -- ---- what holds of every two, by key
-
-  pub two-by-key : (R : A → A → Type 0) (l : List A) → Rising key l → AllTwo R l → {x y : A} → x ∈ l → y ∈ l → key x < key y → R x y
-  two-by-key R (z ∷ l) r t {x} {y} (here e) (here f) k = let g = ap key e in let h = ap key f in absurd (omega arith)
-  two-by-key R (z ∷ l) r t {x} {y} (here e) (there n) k = rw e (t .0 y n)
-  two-by-key R (z ∷ l) r t {x} {y} (there m) (here f) k = let g = ap key f in let b = r .0 x m in absurd (omega arith)
-  two-by-key R (z ∷ l) r t {x} {y} (there m) (there n) k = two-by-key R l (r .1) (t .1) m n k
-
-  pub by-key-two : (R : A → A → Type 0) (l : List A) → Rising key l → ((x y : A) → x ∈ l → y ∈ l → key x < key y → R x y) → AllTwo R l
-  by-key-two R [] r h = tt
-  by-key-two R (z ∷ l) r h = ((λ y m. h z y (here refl) (there m) (r .0 y m)), by-key-two R l (r .1) (λ x y m n. h x y (there m) (there n)))
-
   -- ---- insert
 
   pub insert-member : (n : A) (l : List A) {x : A} → x ∈ insert key n l → (x ≡ n) ⊎ (x ∈ l)
@@ -35,6 +24,13 @@ module _ {A : Type 0} (key : A → ℕ) where
   insert-member n (y ∷ l) m = elim (tested (ltb (key n) (key y))) [
     | inl e ↦ cases-cons (rw e at m)
     | inr e ↦ ⊎-elim (λ q. inr (here q)) (λ t. ⊎-elim (λ q. inl q) (λ u. inr (there u)) (insert-member n l t)) (cases-cons (rw e at m))
+  ]
+
+  pub member-insert : (n : A) (l : List A) {x : A} → (x ≡ n) ⊎ (x ∈ l) → x ∈ insert key n l
+  member-insert n [] u = ⊎-elim (λ e. here e) (λ i. there i) u
+  member-insert n (y ∷ l) u = elim (tested (ltb (key n) (key y))) [
+    | inl e ↦ rw e (⊎-elim (λ q. here q) (λ i. there i) u)
+    | inr e ↦ rw e (⊎-elim (λ q. there (member-insert n l (inl q))) (λ i. ⊎-elim (λ q. here q) (λ j. there (member-insert n l (inr j))) (cases-cons i)) u)
   ]
 
   pub insert-length : (n : A) (l : List A) → length (insert key n l) ≡ length l + 1
@@ -63,6 +59,16 @@ module _ {A : Type 0} (key : A → ℕ) where
       | inr f ↦ rw (e, f, has-insert n l k, f)
     ]
   ]
+
+  -- the keys after are those before, and the new one
+  pub has-insert-iff : (n : A) (l : List A) (k : ℕ) → (has key (insert key n l) k ≡ true) ↔ ((has key l k ≡ true) ⊎ (k ≡ key n))
+  has-insert-iff n l k = (
+    λ h. elim (tested (eqb (key n) k)) [
+      | inl e ↦ inr (sym (eqb-true (key n) k e))
+      | inr e ↦ inl (unless-iff (eqb (key n) k) (has key l k) .0 (sym (has-insert n l k) ∙ h) e)
+    ],
+    λ u. has-insert n l k ∙ unless-iff (eqb (key n) k) (has key l k) .1 (λ d. ⊎-elim (λ h. h) (λ e. absurd (eqb-false (key n) k d (sym e))) u),
+  )
 
   pub at-insert-new : (none : ℕ → A) (n : A) (l : List A) → has key l (key n) ≡ false → at key none (insert key n l) (key n) ≡ n
   at-insert-new none n [] h = rw (eq-eqb (key n) (key n) refl)
@@ -128,6 +134,15 @@ module _ {A : Type 0} (key : A → ℕ) where
       | inr e ↦ rw (same x, e) (at-map-same none l k h)
     ]
 
+    -- what the change leaves of an element is found as before
+    pub at-map-field : {B : Type 0} (g : A → B) → ((x : A) → g (f x) ≡ g x) → (none : ℕ → A) (l : List A) (k : ℕ)
+        → g (at key none (map f l) k) ≡ g (at key none l k)
+    at-map-field g s none [] k = refl
+    at-map-field g s none (x ∷ l) k = elim (tested (eqb (key x) k)) [
+      | inl e ↦ rw (same x, e) (s x)
+      | inr e ↦ rw (same x, e) (at-map-field g s none l k)
+    ]
+
     pub rising-map : (l : List A) → Rising key l → Rising key (map f l)
     rising-map l r = two-map (λ x y. key x < key y) (λ x y. key x < key y) f (λ x y b. let p = same x in let q = same y in omega arith) l r
 
@@ -161,6 +176,17 @@ module _ {A : Type 0} (key : A → ℕ) where
     ]
 
   -- ---- remove one
+
+  -- the keys after are those before but the one removed
+  pub has-remove-iff : (j : ℕ) (l : List A) (k : ℕ) → (has key (remove key j l) k ≡ true) ↔ ((has key l k ≡ true) × (k ≡ j → ⊥))
+  has-remove-iff j l k =
+      let kept = has-keep (λ x. not (eqb x j)) l k in (
+        λ h. let b = and-iff (not (eqb k j)) (has key l k) .0 (sym kept ∙ h) in (b .1, eqb-false k j (not-iff _ .0 (b .0))),
+        λ h. kept ∙ and-iff (not (eqb k j)) (has key l k) .1 (not-iff _ .1 (ne-eqb k j (h .1)), h .0),
+      )
+
+  pub at-remove : (none : ℕ → A) (j : ℕ) (l : List A) (k : ℕ) → (k ≡ j → ⊥) → at key none (remove key j l) k ≡ at key none l k
+  at-remove none j l k d = at-keep (λ x. not (eqb x j)) none l k (not-iff _ .1 (ne-eqb k j d))
 
   pub sum-remove : (none : ℕ → A) (f : A → ℕ) (l : List A) (k : ℕ) → Rising key l → has key l k ≡ true
       → f (at key none l k) + sum f (remove key k l) ≡ sum f l

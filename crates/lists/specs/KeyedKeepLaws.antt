@@ -1,14 +1,14 @@
--- How inserting goes together with keeping some elements and changing each, and a field that a change leaves as it is. Assumes nothing.
+-- How inserting goes together with keeping some elements and with changing each: equal lists. Assumes nothing.
 use mathlib.Core.Bool.{Bool, true, false}
 use mathlib.Core.List.{List, [], _∷_, map, List·Memᴰ·head as here}
 use mathlib.Core.Logic.{inl, inr}
 use mathlib.Core.Path.{_≡_, refl}
 use Prim.Native.Nat.{ℕ}
 use native.Mathlib.Omega.{arith}
-use lib.Dec.{ltb, eqb}
+use lib.Dec.{ltb}
 use borrow.Author.Tests.{ltb-true, lt-ltb}
 use Rattle.lists.specs.Lists.{_∈_, keep}
-use Rattle.lists.specs.Keyed.{at, insert, Rising}
+use Rattle.lists.specs.Keyed.{insert, Rising}
 use Rattle.lists.specs.Tests.{tested}
 use Rattle.lists.specs.ListLaws.{keep-member}
 
@@ -19,15 +19,6 @@ module _ {A : Type 0} (key : A → ℕ) where
     map-insert n (x ∷ l) = elim (tested (ltb (key n) (key x))) [
       | inl e ↦ rw (same n, same x, e)
       | inr e ↦ rw (same n, same x, e, map-insert n l)
-    ]
-
-    -- what the change leaves of an element is found as before
-    pub at-map-field : {B : Type 0} (g : A → B) → ((x : A) → g (f x) ≡ g x) → (none : ℕ → A) (l : List A) (k : ℕ)
-        → g (at key none (map f l) k) ≡ g (at key none l k)
-    at-map-field g s none [] k = refl
-    at-map-field g s none (x ∷ l) k = elim (tested (eqb (key x) k)) [
-      | inl e ↦ rw (same x, e) (s x)
-      | inr e ↦ rw (same x, e) (at-map-field g s none l k)
     ]
 
   module _ (p : A → Bool) (n : A) where

@@ -1,4 +1,4 @@
--- What searching, inserting and rising mean in a list with keys. Assumes nothing.
+-- What having a key, looking it up and rising mean in a list with keys, and what holds of every two by key. Assumes nothing.
 use mathlib.Core.Bool.{true, false}
 use mathlib.Core.List.{List, [], _∷_, List·Memᴰ·head as here, List·Memᴰ·tail as there, List·Memᴰ·not-nil as nowhere, List·Memᴰ·cases-cons as cases-cons}
 use mathlib.Core.Logic.{_↔_, inl, inr, ⊎-elim}
@@ -7,7 +7,7 @@ use Prim.Native.Nat.{ℕ, _<_}
 use native.Mathlib.Omega.{arith}
 use lib.Dec.{ltb, eqb}
 use borrow.Author.Tests.{ltb-true, lt-ltb, eqb-true, eq-eqb, ne-eqb}
-use Rattle.lists.specs.Lists.{_∈_}
+use Rattle.lists.specs.Lists.{_∈_, AllTwo}
 use Rattle.lists.specs.Keyed.{has, at, risingFrom, rising, Has, Rising}
 use Rattle.lists.specs.Tests.{tested, never, and-iff, unless-iff}
 
@@ -68,3 +68,15 @@ module _ {A : Type 0} (key : A → ℕ) where
   pub member-at : (none : ℕ → A) (l : List A) → Rising key l → {x : A} → x ∈ l → at key none l (key x) ≡ x
   member-at none (y ∷ l) r (here q) = rw (ap key q, eq-eqb (key y) (key y) refl) (sym q)
   member-at none (y ∷ l) r {x} (there m) = let b = r .0 x m in rw (ne-eqb (key y) (key x) (omega arith)) (member-at none l (r .1) m)
+
+  -- ---- what holds of every two, by key
+
+  pub two-by-key : (R : A → A → Type 0) (l : List A) → Rising key l → AllTwo R l → {x y : A} → x ∈ l → y ∈ l → key x < key y → R x y
+  two-by-key R (z ∷ l) r t {x} {y} (here e) (here f) k = let g = ap key e in let h = ap key f in absurd (omega arith)
+  two-by-key R (z ∷ l) r t {x} {y} (here e) (there n) k = rw e (t .0 y n)
+  two-by-key R (z ∷ l) r t {x} {y} (there m) (here f) k = let g = ap key f in let b = r .0 x m in absurd (omega arith)
+  two-by-key R (z ∷ l) r t {x} {y} (there m) (there n) k = two-by-key R l (r .1) (t .1) m n k
+
+  pub by-key-two : (R : A → A → Type 0) (l : List A) → Rising key l → ((x y : A) → x ∈ l → y ∈ l → key x < key y → R x y) → AllTwo R l
+  by-key-two R [] r h = tt
+  by-key-two R (z ∷ l) r h = ((λ y m. h z y (here refl) (there m) (r .0 y m)), by-key-two R l (r .1) (λ x y m n. h x y (there m) (there n)))

@@ -4,7 +4,7 @@ pub mod Lists
 pub mod Tests
 pub mod ListLaws
 pub mod KeyedLaws
+pub mod KeepLaws
 pub mod ListChanges
 pub mod KeyedChanges
-pub mod KeepLaws
 pub mod KeyedKeepLaws

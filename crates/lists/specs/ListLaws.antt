@@ -1,4 +1,4 @@
--- What the tests of a list mean. Assumes nothing.
+-- What the tests of a list mean, and which elements keep keeps. Assumes nothing.
 use mathlib.Core.Bool.{Bool, true, false}
 use mathlib.Core.List.{List, [], _∷_, List·Memᴰ·head as here, List·Memᴰ·tail as there, List·Memᴰ·not-nil as nowhere, List·Memᴰ·cases-cons as cases-cons}
 use mathlib.Core.Logic.{_↔_, inl, inr, ⊎-elim}

@@ -1,4 +1,5 @@
--- What the definitions ask of a list: tests of its elements, and the same as propositions. Assumes nothing.
+-- The functions on lists that the definitions use: tests of the elements, the elements that pass one, a sum, all but the first; and AllTwo as a proposition.
+-- Assumes nothing.
 use mathlib.Core.Bool.{Bool, true, false, _&&_, _||_}
 use mathlib.Core.List.{List, [], _∷_, List·Memᴰ}
 use Prim.Native.Nat.{ℕ, _+_}

@@ -1,5 +1,5 @@
 -- From tests to facts and back: each law says what one form of test means, and `simp reflect` turns a whole test into its facts. Assumes nothing.
-use mathlib.Core.Bool.{Bool, true, false, not, _&&_, _||_}
+use mathlib.Core.Bool.{Bool, true, false, not, _&&_, _||_, and-eq-true-iff}
 use mathlib.Core.Logic.{_↔_, _⊎_, inl, inr}
 use mathlib.Core.Path.{_≡_, refl, sym}
 use Prim.Native.Nat.{ℕ, _<_, _≤_}
@@ -27,8 +27,7 @@ same-test false true f g = g refl
 same-test false false f g = refl
 
 pub and-iff : (a b : Bool) → ((a && b) ≡ true) ↔ ((a ≡ true) × (b ≡ true))
-and-iff true b = (λ h. (refl, h), λ h. h .1)
-and-iff false b = (λ h. never false h refl, λ h. never false (h .0) refl)
+and-iff a b = and-eq-true-iff a b
 
 pub implies-iff : (a b : Bool) → ((not a || b) ≡ true) ↔ (a ≡ true → b ≡ true)
 implies-iff true b = (λ h _. h, λ h. h refl)

@@ -11,19 +11,19 @@ use borrow.Author.Tests.{eq-eqb, ne-eqb}
 use Rattle.lists.specs.Choice.{if_then_else_}
 use Rattle.lists.specs.Tests.{and-iff}
 use Rattle.names.specs.Numbers.{numberOf}
-use Rattle.meaning.specs.Model.{Bytes, tableLimits}
+use Rattle.meaning.specs.Model.{Bytes}
 use Rattle.meaning.specs.Rules.{sound}
 use Rattle.meaning.specs.Facts.{Sound}
 use Rattle.meaning.specs.Calls.{Call, step}
 use Rattle.meaning.specs.CallList.{after, bytesAfter, told}
 use Rattle.meaning.specs.Laws.Agree.{sound-agrees}
 use Rattle.meaning.specs.Laws.Step.{step-refused}
-use Rattle.laws.specs.Fits.{limits-stay}
+use Rattle.laws.specs.Fixed.{limits-stay}
 use Rattle.stretches.specs.Stretch as stretch
 use Rattle.table.specs.declared.Table.{Table}
 use Rattle.table.specs.Table.{reading, written, rule8, soundTable, Sized}
 use Rattle.table.specs.Laws.{reading-written, written-reading, broken-none}
-use Rattle.sound_tables.specs.SoundTables.{accepted-table-sound, accepted-table-sized}
+use Rattle.sound_tables.specs.SoundTables.{table-limits, accepted-table-sound, table-sized-after}
 use Rattle.promises.specs.Handed.{Given, Handed, Made, none, first, lastTable, lastBytes}
 use Rattle.promises.specs.OneAnswer.{handed-called}
 use Rattle.promises.specs.Proof2.{called-meant}
@@ -43,10 +43,6 @@ pub good-written : (t : Table) → Good t → written (reading t) ≡ t
 unfolding soundTable
 good-written t g = written-reading t (g .sized) (and-iff (sound (reading t)) (rule8 t) .0 (g .sound) .1)
 
-limits-of : (t : Table) → reading t .limits ≡ tableLimits
-unfolding reading
-limits-of t = refl
-
 -- one call
 pub record Follows (t : Table) (bs : Bytes) (c : Call) (g : Given) : Type 0 where
   pub model : reading (g .table) ≡ step (reading t) bs c .model
@@ -64,8 +60,8 @@ follows t bs c g good h =
     let rest : (reading (g .table) ≡ o .model) × Good (g .table) = elim (ℕ-discrete (o .report) 0) [
       | yes z ↦
           let w : g .table ≡ written (o .model) = table ∙ rw (eq-eqb (o .report) 0 z) in (
-            ap reading w ∙ reading-written (o .model) (limits-stay (reading t) bs c ∙ limits-of t),
-            record { sized = rw w (accepted-table-sized t (good .sized) bs c); sound = rw w (broken-none _ .0 (accepted-table-sound t (good .sized) bs c z)) },
+            ap reading w ∙ reading-written (o .model) (limits-stay (reading t) bs c ∙ table-limits t),
+            record { sized = rw w (table-sized-after t (good .sized) bs c); sound = rw w (broken-none _ .0 (accepted-table-sound t (good .sized) bs c z)) },
           )
       | no r ↦
           let w : g .table ≡ t = table ∙ rw (ne-eqb (o .report) 0 r) in

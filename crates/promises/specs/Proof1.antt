@@ -9,7 +9,7 @@ use borrow.Author.Tests.{ne-eqb}
 use Rattle.lists.specs.Choice.{if_then_else_}
 use Rattle.lists.specs.Tests.{never, not-false-iff, reflect}
 use Rattle.lists.specs.Keyed.{has}
-use Rattle.lists.specs.KeyedLaws.{at-key, at-member, has-iff}
+use Rattle.lists.specs.KeyedLaws.{at-member, has-iff}
 use Rattle.names.specs.Numbers.{numberOf}
 use Rattle.meaning.specs.Model.{Model, Bytes, free, storeName, noSuchStore, storeOf, rootOf}
 use Rattle.meaning.specs.Nesting.{parentIn}
@@ -18,7 +18,7 @@ use Rattle.meaning.specs.Facts.{Sound}
 use Rattle.meaning.specs.Reports.{parentStore}
 use Rattle.meaning.specs.Calls.{Call, start, root, contextOf, setContext, totalOf, usedOf, freeOf, find, allocate, makeStore, clear, resize, makeStack, destroyStack, addThread, removeThread, code, Outcome, refused, checks, allChecks, step}
 use Rattle.meaning.specs.Laws.Step.{accepted-exact, accepted-sound, step-refused}
-use Rattle.meaning.specs.Laws.Nested.{root-or-other}
+use Rattle.meaning.specs.Laws.Nested.{named, root-or-other}
 use Rattle.meaning.specs.Laws.Within.{store-within, store-fits, context-listed}
 use Rattle.table.specs.declared.Table.{Table}
 use Rattle.table.specs.Table.{reading, written}
@@ -67,7 +67,7 @@ module _ (m : Model) (sound : Sound m) where
       (λ i.
       let p = parentIn (m .stores) s in
       let there = has-iff storeName (m .stores) p .1 (sound .rule3 .others (storeOf (m .stores) s) i .listed) in
-      let lies = sound .rule4 .inside (storeOf (m .stores) p) (storeOf (m .stores) s) (at-member storeName noSuchStore (m .stores) p there) i (sym (at-key storeName noSuchStore (λ k. refl) (m .stores) p)) in
+      let lies = sound .rule4 .inside (storeOf (m .stores) p) (storeOf (m .stores) s) (at-member storeName noSuchStore (m .stores) p there) i (sym (named (m .stores) p)) in
       omega (arith, lies, store-fits m sound p there, total-within p there))
       (root-or-other m sound h)
 

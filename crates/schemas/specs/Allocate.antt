@@ -1,4 +1,4 @@
--- Call 8 meets the report's schema for allocating memory. The report's address is the block's first; the value told is behind the overhead. Assumes nothing.
+-- Call 8 meets 000's schema for allocating memory. 000's address is the block's first; the value told is that plus the overhead. Assumes nothing.
 use mathlib.Core.List.{List}
 use mathlib.Core.Logic.{inl, inr, ⊎-elim}
 use mathlib.Core.Path.{_≡_, refl, sym, _∙_, ap}
@@ -11,9 +11,10 @@ use Rattle.meaning.specs.Model.{Store, Model, Bytes, free, storeOf, contextIn}
 use Rattle.meaning.specs.Facts.{Sound}
 use Rattle.meaning.specs.Changes.{withUsed, withStores}
 use Rattle.meaning.specs.Calls.{allocate, checks, change, allChecks, step}
+use Rattle.meaning.specs.Laws.Nested.{named}
 use Rattle.meaning.specs.Laws.Step.{accepted-exact, step-accepted}
 use Rattle.meaning.specs.Laws.Within.{context-listed}
-use Rattle.laws.specs.ByName.{Listed, usedIn, named, by-name}
+use Rattle.laws.specs.ByName.{Listed, usedIn, by-name}
 use Rattle.laws.specs.StoreChanges.{UsedSet, used-set}
 use Rattle.laws.specs.StoreCalls.{allocate-sound}
 use Rattle.schemas.specs.Memory.{picked}
@@ -23,9 +24,8 @@ use Rattle.schemas.specs.Stores.{SameStore, ΔBackingStore, RBSAllocate}
 use Rattle.schemas.specs.Global.{PromoteAC, GlobalAllocateMemory}
 use Rattle.schemas.specs.Threads.{RThreadAllocateMemory}
 use Rattle.schemas.specs.Reading.{backingOf, blockOf, globalOf, store-invariant}
-use Rattle.schemas.specs.Steps.{checked, unchecked, told-sound, no-thread, same-store, store-stays, block-stays, global-stays}
-use Rattle.schemas.specs.Lines.{same-line, lowEnd, low-end-taken, children-same, changes, fixed-vars}
-use Rattle.schemas.specs.Questions.{asked}
+use Rattle.schemas.specs.Steps.{checked, unchecked, told-sound, no-thread, same-store, store-stays, block-stays, global-stays, asked}
+use Rattle.schemas.specs.StoreSteps.{same-line, lowEnd, low-end-taken, children-same, stores-change, fixed-vars}
 
 module _ (m : Model) (sound : Sound m) (c : ℕ) (there : Listed (m .stores) c) (n : ℕ) (room : blockTaken n ≤ free (storeOf (m .stores) c)) where
   abbrev ss : List Store
@@ -56,7 +56,7 @@ module _ (m : Model) (sound : Sound m) (c : ℕ) (there : Listed (m .stores) c) 
   promotes : PromoteAC (globalOf m) (globalOf (withStores m ss′)) (backingOf ss c) (backingOf ss′ c) c
   promotes =
       record {
-        changes = changes m sound ss′ sound′;
+        changes = stores-change m sound ss′ sound′;
         store = context-changes;
         there = there;
         now = same-store _;
@@ -95,7 +95,7 @@ module _ (m : Model) (sound : Sound m) (c : ℕ) (there : Listed (m .stores) c) 
         first = (omega arith, λ x h. omega arith);
       }
 
--- The report's address is any number in a refusal; accepted, it and the overhead make the value.
+-- In a refusal 000's address may be any number; accepted, it and the overhead make the value.
 at-address : (m : Model) (bs : Bytes) (t n address : ℕ) (r : MMReport) → step m bs (allocate t n) .report ≡ number r
     → (step m bs (allocate t n) .report ≡ 0 → step m bs (allocate t n) .value ≡ address + allocationOverhead)
     → RThreadAllocateMemory (globalOf m) (globalOf (step m bs (allocate t n) .model)) t n address r
@@ -115,7 +115,7 @@ at-address m bs t n address r h v =
     inl (record {
       ac = c;
       done = inl (rw e (allocated m (o .0) c there n room (a .0) (omega arith)));
-      promotes = rw e (record { changes = changes m (o .0) _ (sound′ m (o .0) c there n room); known = f .1 .1 .0; context = refl });
+      promotes = rw e (record { changes = stores-change m (o .0) _ (sound′ m (o .0) c there n room); known = f .1 .1 .0; context = refl });
     }))
     (λ a. ⊎-elim
     (λ x. let l = number-most r in absurd (omega (arith, x .1)))

@@ -1,4 +1,4 @@
--- What document 01 takes away by report 13 at call 11. Where a store does not end where its parent's free part begins, the report's schema can change it to two
+-- What document 01 takes away by report 13 at call 11. Where a store does not end where its parent's free part begins, 000's schema can change it to two
 -- sizes at most, its own and that of the free part, unless nothing is free. Assumes nothing.
 use mathlib.Core.Bool.{true}
 use mathlib.Core.Logic.{_⊎_, inl, inr, ⊎-elim}
@@ -99,11 +99,11 @@ module _ (m : Model) (sound : Sound m) (x n : ℕ) (apart : notLast m x ≡ true
   is-child : Child (m .stores) x (c .parentID)
   is-child = c .only x .1 refl
 
-  -- the report's old addresses are the store's
+  -- 000's old addresses are the store's
   old-size : c .oldAddresses .length ≡ totalIn (m .stores) x
   old-size = counts-one (run-counts (c .oldAddresses) (λ a. (λ h. h, λ h. h))) (run-counts (whole (storeOf (m .stores) x)) (resized-child (c .resizes) .memory .old))
 
-  -- the store's parent is the report's
+  -- the store's parent is 000's
   parent-is : parentIn (m .stores) x ≡ c .parentID
   parent-is = child-link m sound is-child .0
 

@@ -1,4 +1,4 @@
--- Memory blocks: the schemas of the report's section 1.1, each by its name, a field for each of its lines in their order. A schema's state is `b`, its state
+-- Memory blocks: the schemas of 000, section 1.1, each by its name, a field for each of its lines in their order. A schema's state is `b`, its state
 -- after is `b′`, inputs and outputs follow. Assumes nothing.
 use mathlib.Core.Logic.{_⊎_}
 use mathlib.Core.Path.{_≡_}
@@ -130,6 +130,8 @@ pub record MBInsufficientFreeSize (b b′ : Block) (oldAddresses : Run) (newSize
 -- RMBAllocate
 abbrev pub RMBAllocate : Block → Block → ℕ → Run → MMReport → Type 0
 RMBAllocate b b′ request allocated report = (MBAllocate b b′ request allocated × Success report) ⊎ MBOutOfMemory b b′ request report
+
+-- From here on for completeness: 000's later sections use the plain operations.
 
 -- RMBClear
 abbrev pub RMBClear : Block → Block → MMReport → Type 0

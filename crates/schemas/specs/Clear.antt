@@ -1,27 +1,26 @@
--- Call 10 meets the report's schema for clearing a backing store. Assumes nothing.
-use mathlib.Core.Bool.{Bool, true, false, not}
+-- Call 10 meets 000's schema for clearing a backing store. Assumes nothing.
+use mathlib.Core.Bool.{true, false}
 use mathlib.Core.List.{List}
 use mathlib.Core.Logic.{_⊎_, inl, inr, ⊎-elim}
 use mathlib.Core.Path.{_≡_, refl, sym, _∙_, ap}
 use Prim.Native.Nat.{ℕ}
 use native.Mathlib.Decide.{decLt}
 use native.Mathlib.Omega.{arith}
-use Rattle.lists.specs.Lists.{keep}
-use Rattle.lists.specs.Tests.{never, false-of, and-iff, not-iff, not-false-iff}
+use Rattle.lists.specs.Tests.{never, and-iff, not-iff, not-false-iff}
 use Rattle.lists.specs.ListLaws.{any-member, member-any}
 use Rattle.lists.specs.KeyedLaws.{member-has, at-member, member-at}
-use Rattle.meaning.specs.Model.{Store, Model, Bytes, freePart, threadName, noSuchThread, listed, storeOf, contextIn}
-use Rattle.meaning.specs.Nesting.{Child, Nested, child, inChild, nested, parentIn}
+use Rattle.meaning.specs.Model.{Store, Model, Bytes, freePart, threadName, noSuchThread, storeOf, contextIn}
+use Rattle.meaning.specs.Nesting.{Child, Nested, child, inChild, nested}
 use Rattle.meaning.specs.Facts.{Sound}
 use Rattle.meaning.specs.Reports.{inUse}
 use Rattle.meaning.specs.Changes.{cleared, withStores}
 use Rattle.meaning.specs.Calls.{clear, checks, change, allChecks, step}
-use Rattle.meaning.specs.Laws.Nested.{child-link, link-child, nested-agrees}
+use Rattle.meaning.specs.Laws.Nested.{named, child-link, link-child, nested-agrees}
 use Rattle.meaning.specs.Laws.Step.{accepted-exact, step-accepted}
 use Rattle.meaning.specs.Laws.Within.{context-listed}
-use Rattle.laws.specs.ByName.{Listed, totalIn, named, by-name}
-use Rattle.laws.specs.Nesting.{never-in-itself, inner-listed}
-use Rattle.laws.specs.StoreChanges.{UsedSet, used-set, Kept, kept}
+use Rattle.laws.specs.ByName.{Listed, by-name}
+use Rattle.laws.specs.Nesting.{never-in-itself, not-nested, inner-listed}
+use Rattle.laws.specs.StoreChanges.{Cleared, after-clear}
 use Rattle.laws.specs.StoreCalls.{clear-sound}
 use Rattle.schemas.specs.Memory.{Finite, picked, _⊕_⟼_, _⩤_}
 use Rattle.schemas.specs.Reports.{MMReport, number, number-names}
@@ -30,7 +29,7 @@ use Rattle.schemas.specs.Global.{SameStores, reached, GlobalClearBS, Glo
 use Rattle.schemas.specs.Threads.{RThreadClearBS}
 use Rattle.schemas.specs.Reading.{backingOf, storesOf, globalOf, listed-finite, store-invariant, plus-nested, nested-plus}
 use Rattle.schemas.specs.Steps.{checked, unchecked, told-sound, no-thread, same-store, global-stays}
-use Rattle.schemas.specs.Lines.{same-line, changes, fixed-vars}
+use Rattle.schemas.specs.StoreSteps.{same-line, stores-change, fixed-vars}
 
 -- the parent of a nested store is what it is nested in, or is nested there too
 parent-nested : (m : Model) → Sound m → {x s c : ℕ} → Nested (m .stores) x c → Child (m .stores) x s → (s ≡ c) ⊎ Nested (m .stores) s c
@@ -44,54 +43,31 @@ module _ (m : Model) (sound : Sound m) (c : ℕ) (there : Listed (m .stores) c) 
   abbrev ss′ : List Store
   ss′ = cleared c ss
 
-  abbrev stays : ℕ → Bool
-  stays k = not (nested ss k c)
-
-  abbrev left : List Store
-  left = keep (λ s. stays (s .start)) ss
-
   sound′ : Sound (withStores m ss′)
   sound′ = clear-sound m sound c there idle
 
-  g : UsedSet c 0 left ss′
-  g = used-set c 0 left
-
-  k : Kept stays ss left
-  k = kept stays ss
-
-  stay : {x : ℕ} → (Nested ss x c → ⊥) → stays x ≡ true
-  stay {x} out = not-iff (nested ss x c) .1 (false-of _ (λ e. out (nested-agrees m sound x c .0 e)))
-
-  in-left : (x : ℕ) → Listed ss x → (Nested ss x c → ⊥) → Listed left x
-  in-left x h out = k .names x ∙ and-iff (stays x) (listed ss x) .1 (stay out, h)
+  g : Cleared c ss ss′
+  g = after-clear c ss
 
   left-listed : (x : ℕ) → Listed ss x → (Nested ss x c → ⊥) → Listed ss′ x
-  left-listed x h out = g .names x ∙ in-left x h out
+  left-listed x h out = g .names x .1 (h, not-nested m sound out)
 
   was-listed : (x : ℕ) → Listed ss′ x → Listed ss x × (Nested ss x c → ⊥)
-  was-listed x h =
-      let b = and-iff (stays x) (listed ss x) .0 (sym (k .names x) ∙ sym (g .names x) ∙ h) in
-      (b .1, λ n. never (nested ss x c) (nested-agrees m sound x c .1 n) (not-iff _ .0 (b .0)))
+  was-listed x h = let b = g .names x .0 h in (b .0, λ n. never (nested ss x c) (nested-agrees m sound x c .1 n) (b .1))
 
   there′ : Listed ss′ c
   there′ = left-listed c there (never-in-itself m sound)
-
-  left-parent : (x : ℕ) → Listed ss x → (Nested ss x c → ⊥) → parentIn ss′ x ≡ parentIn ss x
-  left-parent x h out = g .parents x (in-left x h out) ∙ ap (λ s. s .parent) (k .lines x (stay out))
-
-  left-total : (x : ℕ) → Listed ss x → (Nested ss x c → ⊥) → totalIn ss′ x ≡ totalIn ss x
-  left-total x h out = g .totals x (in-left x h out) ∙ ap (λ s. s .total) (k .lines x (stay out))
 
   child-after : (x s : ℕ) → Child ss′ x s → Child ss x s × (Nested ss x c → ⊥)
   child-after x s d =
       let l = child-link (withStores m ss′) sound′ d in
       let w = was-listed x (inner-listed (withStores m ss′) sound′ (child d)) in
-      (link-child m sound (sym (left-parent x (w .0) (w .1)) ∙ l .0) (l .1), w .1)
+      (link-child m sound (sym (g .parents x (not-nested m sound (w .1))) ∙ l .0) (l .1), w .1)
 
   child-before : (x s : ℕ) → Child ss x s → (Nested ss x c → ⊥) → Child ss′ x s
   child-before x s d out =
       let l = child-link m sound d in
-      link-child (withStores m ss′) sound′ (left-parent x (inner-listed m sound (child d)) out ∙ l .0) (l .1)
+      link-child (withStores m ss′) sound′ (g .parents x (not-nested m sound out) ∙ l .0) (l .1)
 
   context-clears : BSClear (backingOf ss c) (backingOf ss′ c)
   context-clears =
@@ -100,8 +76,8 @@ module _ (m : Model) (sound : Sound m) (c : ℕ) (there : Listed (m .stores) c) 
       let f = by-name m sound .fits c there in
       let p = named ss c in
       let q = named ss′ c in
-      let t = left-total c there (never-in-itself m sound) in
-      let u = g .here (in-left c there (never-in-itself m sound)) in
+      let t = g .totals c (not-nested m sound (never-in-itself m sound)) in
+      let u = g .here there (not-nested m sound (never-in-itself m sound)) in
       record {
         changes = record { before = i; after = j };
         memory =
@@ -135,7 +111,7 @@ module _ (m : Model) (sound : Sound m) (c : ℕ) (there : Listed (m .stores) c) 
     λ x u. picked (λ b. SameStore b (backingOf ss′ x)) x c (λ e. rw e (same-store _))
         (λ d. ⊎-elim
         (λ b. let out : Nested ss x c → ⊥ = λ n. b .1 (nested-plus ss n) in
-        same-line ss ss′ x (left-total x (b .0) out) (g .elsewhere x (in-left x (b .0) out) d ∙ ap (λ s. s .used) (k .lines x (stay out)))
+        same-line ss ss′ x (g .totals x (not-nested m sound out)) (ap (λ s. s .used) (g .elsewhere x (not-nested m sound out) d))
         (λ y. (λ e. child-after y x e .0, λ e. child-before y x e (λ n. ⊎-elim (λ q. d q) out (parent-nested m sound n e)))))
         (λ e. absurd (d e))
         u),
@@ -144,7 +120,7 @@ module _ (m : Model) (sound : Sound m) (c : ℕ) (there : Listed (m .stores) c) 
   clears : GlobalClearBS (globalOf m) (globalOf (withStores m ss′)) c
   clears =
       record {
-        changes = changes m sound ss′ sound′;
+        changes = stores-change m sound ss′ sound′;
         there = there;
         cleared = backingOf ss′ c;
         clears = (context-clears, refl);
@@ -182,7 +158,7 @@ clear-meets m bs t r h =
     inl (record {
       ac = c;
       done = inl (rw (step-accepted m bs call (a .1)) (clears m (o .0) c there (f .1 .1 .0)), a .0);
-      promotes = rw (step-accepted m bs call (a .1)) (record { changes = changes m (o .0) _ (sound′ m (o .0) c there (f .1 .1 .0)); known = f .1 .0; context = refl });
+      promotes = rw (step-accepted m bs call (a .1)) (record { changes = stores-change m (o .0) _ (sound′ m (o .0) c there (f .1 .1 .0)); known = f .1 .0; context = refl });
     }))
     (λ a. ⊎-elim
     (λ x. inr (no-thread (o .0) (a .0) (not-iff _ .0 (x .0)) (x .1)))

@@ -1,4 +1,4 @@
--- The global memory manager: the schemas of the report's section 1.3, each by its name, a field for each of its lines in their order. Where a schema says that
+-- The global memory manager: the schemas of 000, section 1.3, each by its name, a field for each of its lines in their order. Where a schema says that
 -- a store exists that is `stores ac?`, that store stands in its place. Assumes nothing.
 use mathlib.Core.Logic.{_↔_, _⊎_}
 use mathlib.Core.Path.{_≡_}

@@ -1,24 +1,23 @@
--- Call 9 meets the report's schema for making a backing store. Assumes nothing.
+-- Call 9 meets 000's schema for making a backing store. Assumes nothing.
 use mathlib.Core.Bool.{false}
 use mathlib.Core.List.{List}
 use mathlib.Core.Logic.{_⊎_, inl, inr, ⊎-elim}
 use mathlib.Core.Path.{_≡_, refl, sym, _∙_, ap}
 use Prim.Native.Nat.{ℕ, _+_, _≤_}
 use native.Mathlib.Omega.{arith}
-use lib.Dec.{eqb}
-use borrow.Author.Tests.{ltb-true, eqb-true, eqb-false}
+use borrow.Author.Tests.{ltb-true}
 use Rattle.lists.specs.Keyed.{insert}
-use Rattle.lists.specs.Tests.{tested, never, unless-iff, not-iff, not-false-iff, reflect}
+use Rattle.lists.specs.Tests.{never, not-iff, not-false-iff, reflect}
 use Rattle.names.specs.Overhead.{storeOverhead, storeTaken}
 use Rattle.meaning.specs.Model.{Store, Model, Bytes, free, storeName, listed, storeOf, contextIn}
 use Rattle.meaning.specs.Nesting.{Child, child, parentIn}
 use Rattle.meaning.specs.Facts.{Sound}
 use Rattle.meaning.specs.Changes.{withUsed, withStores}
 use Rattle.meaning.specs.Calls.{makeStore, checks, change, allChecks, step}
-use Rattle.meaning.specs.Laws.Nested.{child-link, link-child}
+use Rattle.meaning.specs.Laws.Nested.{named, child-link, link-child}
 use Rattle.meaning.specs.Laws.Step.{accepted-exact, step-accepted}
 use Rattle.meaning.specs.Laws.Within.{context-listed}
-use Rattle.laws.specs.ByName.{Listed, totalIn, usedIn, named, by-name}
+use Rattle.laws.specs.ByName.{Listed, totalIn, usedIn, by-name}
 use Rattle.laws.specs.Nesting.{inner-listed, outer-listed}
 use Rattle.laws.specs.Geometry.{none-at-free}
 use Rattle.laws.specs.StoreChanges.{UsedSet, used-set, Added, added}
@@ -30,9 +29,9 @@ use Rattle.schemas.specs.Global.{SameStores, GlobalMakeBS}
 use Rattle.schemas.specs.Threads.{RThreadMakeBS}
 use Rattle.schemas.specs.Reading.{backingOf, storesOf, globalOf, store-invariant}
 use Rattle.schemas.specs.Steps.{checked, unchecked, told-sound, no-thread, same-store, store-stays, block-stays, global-stays}
-use Rattle.schemas.specs.Lines.{same-line, lowEnd, low-end-taken, changes, fixed-vars}
+use Rattle.schemas.specs.StoreSteps.{same-line, lowEnd, low-end-taken, stores-change, fixed-vars}
 
--- a new store at the low end of c's free part, and the stores with it, where k is c's start
+-- a new store at the low end of c's free part, and the stores with it; k is the start of c's line, which is c (named)
 abbrev newAt : List Store → ℕ → ℕ → ℕ → Store
 newAt ss c n k = record { start = k + storeOverhead + usedIn ss c; total = storeTaken n; used = 0; parent = k }
 
@@ -75,16 +74,13 @@ module _ (m : Model) (sound : Sound m) (c : ℕ) (there : Listed (m .stores) c) 
 
   -- a listed store is the new one or was listed
   old-or-new : (k : ℕ) → Listed ss′ k → Listed ss k ⊎ (k ≡ id)
-  old-or-new k h = elim (tested (eqb id k)) [
-    | inl e ↦ inr (sym (eqb-true id k e))
-    | inr e ↦ inl (sym (g .names k) ∙ unless-iff (eqb id k) _ .0 (sym (a .names k) ∙ h) e)
-  ]
+  old-or-new k h = ⊎-elim (λ l. inl (sym (g .names k) ∙ l)) (λ e. inr e) (a .names k .0 h)
 
   old : (k : ℕ) → Listed ss k → Listed ss′ k
-  old k h = a .names k ∙ unless-iff (eqb id k) _ .1 (λ _. g .names k ∙ h)
+  old k h = a .names k .1 (inl (g .names k ∙ h))
 
   id-there : Listed ss′ id
-  id-there = a .names id ∙ unless-iff (eqb id id) _ .1 (λ e. absurd (eqb-false id id e refl))
+  id-there = a .names id .1 (inr refl)
 
   old-parent : (k : ℕ) → Listed ss k → parentIn ss′ k ≡ parentIn ss k
   old-parent k h = ap (λ s. s .parent) (a .elsewhere k (unlisted h)) ∙ g .parents k h
@@ -167,7 +163,7 @@ module _ (m : Model) (sound : Sound m) (c : ℕ) (there : Listed (m .stores) c) 
   makes : GlobalMakeBS (globalOf m) (globalOf (withStores m ss′)) n c id
   makes =
       record {
-        changes = changes m sound ss′ sound′;
+        changes = stores-change m sound ss′ sound′;
         there = there;
         allocated = lowEnd (storeOf ss c) (storeTaken n);
         parent = backingOf ss′ c;
@@ -198,7 +194,7 @@ make-store-meets m bs t n r h =
     inl (record {
       ac = c;
       done = inl (rw (e, v) (makes m (o .0) c there n room), a .0);
-      promotes = rw e (record { changes = changes m (o .0) _ (sound′ m (o .0) c there n room); known = f .1 .0; context = refl });
+      promotes = rw e (record { changes = stores-change m (o .0) _ (sound′ m (o .0) c there n room); known = f .1 .0; context = refl });
     }))
     (λ a. ⊎-elim
     (λ x. inr (no-thread (o .0) (a .0) (not-iff _ .0 (x .0)) (x .1)))

@@ -1,5 +1,5 @@
--- What the manager's step meets of the report, call by call: for every report of the report's type that a call tells, its robust schema, from the model before,
--- read as a state, to the model after; and the other half of the state as it was. Assumes nothing.
+-- What the manager's step meets of 000, call by call: for every report of MMReport that a call tells, the robust schema of its name, from the model before,
+-- read as a state, to the model after, with the other half of the state as it was. Assumes nothing.
 use mathlib.Core.Logic.{_⊎_}
 use mathlib.Core.Bool.{true, false}
 use mathlib.Core.Path.{_≡_, refl, sym, _∙_, ap}
@@ -15,7 +15,7 @@ use Rattle.schemas.specs.Threads.{ThreadAdd, ThreadRemove, RThreadGetAC,
 use Rattle.schemas.specs.Stacks.{StackSpace, ΞStackMemoryManager, StackMemoryManagerInit, RStackCreate, RStackDelete}
 use Rattle.schemas.specs.Reading.{globalOf, stacksOf}
 use Rattle.schemas.specs.Steps.{told-sound}
-use Rattle.schemas.specs.Halves.{onStacks, stacks-untouched, stores-untouched}
+use Rattle.schemas.specs.Untouched.{onStacks, stacks-untouched, stores-untouched}
 use Rattle.schemas.specs.Start.{start-meets}
 use Rattle.schemas.specs.Questions.{root-meets, context-meets, total-meets, used-meets, free-meets, find-meets}
 use Rattle.schemas.specs.ThreadCalls.{set-meets, add-meets, remove-meets}
@@ -46,12 +46,12 @@ Meets m o (totalOf s) r = OnStores m o (λ g g′. RGlobalGetTotalSize g g′ s 
 Meets m o (usedOf s) r = OnStores m o (λ g g′. RGlobalGetUsedSize g g′ s (o .value) r)
 Meets m o (freeOf s) r = OnStores m o (λ g g′. RGlobalGetFreeSize g g′ s (o .value) r)
 Meets m o (find a) r = OnStores m o (λ g g′. RGlobalFindAddress g g′ a (o .value) r)
--- 8: the value is the report's address with the overhead
+-- 8: the value is 000's address plus the overhead
 Meets m o (allocate t n) r =
     (address : ℕ) × (Success r → o .value ≡ address + allocationOverhead) × OnStores m o (λ g g′. RThreadAllocateMemory g g′ t n address r)
 Meets m o (makeStore t n) r = OnStores m o (λ g g′. RThreadMakeBS g g′ t n (o .value) r)
 Meets m o (clear t) r = OnStores m o (λ g g′. RThreadClearBS g g′ t r)
--- 11: the report's new size is the new total, and its new identifier, the value, is the old one; 13 is not of the report here
+-- 11: 000's new size is the new total, and its new identifier, the value, is the old one; 13 is no report of 000's here
 Meets m o (resize s n) r =
     (r ≡ MMfragmentation → ⊥) → (Success r → o .value ≡ s) × OnStores m o (λ g g′. RGlobalResizeBS g g′ s (storeTaken n) s r)
 Meets m o (makeStack n) r = OnStacks m o (λ s s′. RStackCreate s s′ n (o .value) r)
@@ -67,7 +67,7 @@ module _ (m : Model) (bs : Bytes) (c : Call) (r : MMReport) (n : code c ≡ 0 �
   stores-same : onStacks c ≡ true → ΞGlobalMemoryManager (globalOf m) (globalOf (step m bs c .model))
   stores-same s = stores-untouched m bs c (told-sound m bs c r n h .0) n s
 
--- Every call that tells a report of the report's type meets its schema.
+-- Every call that tells a report of MMReport meets its schema.
 pub step-meets : (m : Model) (bs : Bytes) (c : Call) (r : MMReport) → step m bs c .report ≡ number r → Meets m (step m bs c) c r
 step-meets m bs (start a b) r h = start-meets m bs a b r h
 step-meets m bs root r h = (root-meets m bs r h, stacks-same m bs root r (omega arith) h refl)

@@ -1,6 +1,7 @@
--- The report's toolkit: memory as sets of addresses, contiguous memory, how many elements a set has, partial functions and the closure of a relation.
+-- What the schemas of document 000, the requirements report, are said with: memory as sets of addresses, contiguous memory, how many elements a set has,
+-- partial functions and the closure of a relation.
 -- Sets are predicates, equal where they have the same elements. Assumes nothing.
-use mathlib.Core.Bool.{Bool, true, false, not}
+use mathlib.Core.Bool.{Bool, cond, not}
 use mathlib.Core.List.{List, [], _∷_, List·Memᴰ·head as here, List·Memᴰ·tail as there, List·Memᴰ·not-nil as nowhere, List·Memᴰ·cases-cons as cases-cons}
 use mathlib.Core.Logic.{_↔_, _⊎_, inl, inr, ⊎-elim}
 use mathlib.Core.Path.{_≡_, refl, sym, ap}
@@ -156,19 +157,14 @@ pub record Partial {ℓ} (A : Type ℓ) : Type (ℓ ⊔ 1) where
 abbrev pub single {ℓ} : {A : Type ℓ} → ℕ → A → Partial A
 single k x = record { dom = ⟨ k ⟩; at = λ _. x }
 
--- the first where the test is true, else the second
-abbrev pub pick {ℓ} : {A : Type ℓ} → Bool → A → A → A
-pick true x y = x
-pick false x y = y
-
 infixl 60 _⊕_⟼_
 infix 60 _⩤_
 -- f ⊕ {k ↦ x}
 abbrev pub _⊕_⟼_ {ℓ} : {A : Type ℓ} → Partial A → ℕ → A → Partial A
-f ⊕ k ⟼ x = record { dom = f .dom ∪ ⟨ k ⟩; at = λ j. pick (eqb j k) x (f .at j) }
+f ⊕ k ⟼ x = record { dom = f .dom ∪ ⟨ k ⟩; at = λ j. cond (eqb j k) x (f .at j) }
 
 -- what holds of the overriding value at k, and of the other elsewhere, holds of an overridden function's values
-pub picked {ℓ} : {A : Type ℓ} (P : A → Type 0) (j k : ℕ) {x y : A} → (j ≡ k → P x) → ((j ≡ k → ⊥) → P y) → P (pick (eqb j k) x y)
+pub picked {ℓ} : {A : Type ℓ} (P : A → Type 0) (j k : ℕ) {x y : A} → (j ≡ k → P x) → ((j ≡ k → ⊥) → P y) → P (cond (eqb j k) x y)
 picked P j k at elsewhere = elim (tested (eqb j k)) [
   | inl e ↦ rw e (at (eqb-true j k e))
   | inr e ↦ rw e (elsewhere (eqb-false j k e))

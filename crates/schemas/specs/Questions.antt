@@ -1,27 +1,29 @@
--- Calls 1, 2 and 4 to 7 meet the report's schemas: root, context, the three sizes, find. Assumes nothing.
-use mathlib.Core.Logic.{inl, inr, ⊎-elim}
+-- Calls 1, 2 and 4 to 7 meet 000's schemas: root, context, the three sizes, find. Assumes nothing.
+use mathlib.Core.List.{[], _∷_}
+use mathlib.Core.Logic.{_⊎_, inl, inr, ⊎-elim}
 use mathlib.Core.Path.{_≡_, refl, sym}
 use Prim.Native.Nat.{ℕ}
 use native.Mathlib.Decide.{ℕ-discrete}
 use native.Mathlib.Omega.{arith}
 use Rattle.lists.specs.Tests.{never, not-iff, reflect}
 use Rattle.lists.specs.KeyedLaws.{member-has, member-at}
-use Rattle.meaning.specs.Model.{Model, Bytes, usedPart, storeName, noSuchStore, listed, storeOf}
+use Rattle.meaning.specs.Model.{Model, Bytes, usedPart, storeName, noSuchStore, storeOf}
 use Rattle.meaning.specs.Facts.{Sound}
-use Rattle.meaning.specs.Calls.{root, contextOf, totalOf, usedOf, freeOf, find, checks, change, allChecks, step}
+use Rattle.meaning.specs.Reports.{noStore, _when_}
+use Rattle.meaning.specs.Calls.{Call, root, contextOf, totalOf, usedOf, freeOf, find, code, checks, change, allChecks, step}
 use Rattle.meaning.specs.Laws.Agree.{holds-iff}
 use Rattle.meaning.specs.Laws.Step.{accepted-exact, accepted-sound, step-accepted, question-keeps-model}
 use Rattle.meaning.specs.Laws.Find.{find-right}
-use Rattle.laws.specs.ByName.{Listed, named}
 use Rattle.laws.specs.Nesting.{nested-transitive, never-in-itself}
 use Rattle.laws.specs.Depth.{find-deepest}
-use Rattle.schemas.specs.Memory.{run-counts, picked}
-use Rattle.schemas.specs.Reports.{MMReport, number, number-names}
-use Rattle.schemas.specs.Stores.{Backing, SameStore}
-use Rattle.schemas.specs.Global.{Furthest, Promoted, GlobalFindAddress, RGlobalGetRootBackingStore, RGlobalFindAddress, RGlobalGetTotalSize, RGlobalGetUsedSize, RGlobalGetFreeSize}
+use Rattle.schemas.specs.Memory.{run-counts}
+use Rattle.schemas.specs.Reports.{MMReport, number, number-names, Success}
+use Rattle.schemas.specs.Blocks.{Block, ΞMemoryBlock, MBGetTotalSize, MBGetUsedSize, MBGetFreeSize}
+use Rattle.schemas.specs.Stores.{ΞBackingStore}
+use Rattle.schemas.specs.Global.{Furthest, Promoted, GlobalFindAddress, GlobalNonexistentBS, RGlobalGetRootBackingStore, RGlobalFindAddress, RGlobalGetTotalSize, RGlobalGetUsedSize, RGlobalGetFreeSize}
 use Rattle.schemas.specs.Threads.{RThreadGetAC}
-use Rattle.schemas.specs.Reading.{backingOf, globalOf, store-invariant, plus-nested, nested-plus}
-use Rattle.schemas.specs.Steps.{checked, unchecked, no-store, no-thread, told-sound, block-stays, same-store, store-stays, global-stays}
+use Rattle.schemas.specs.Reading.{blockOf, globalOf, store-invariant, plus-nested, nested-plus}
+use Rattle.schemas.specs.Steps.{checked, unchecked, told-sound, store-stays, block-stays, global-stays, asked, no-store, no-thread}
 
 -- ---- call 1
 
@@ -51,71 +53,42 @@ context-meets m bs t r h =
 
 -- ---- calls 4 to 6
 
--- a question of one store promotes a question of its block
-pub asked : (m : Model) → Sound m → (s : ℕ) → Listed (m .stores) s → (ask : Backing → Backing → Type 0) → ask (backingOf (m .stores) s) (backingOf (m .stores) s)
-    → Promoted ask (globalOf m) (globalOf m) s
-asked m sound s h ask a =
-    let ss = m .stores in
-    let i = store-invariant m sound s h in
-    let g = global-stays {m = m} sound refl in
-    record {
-      store = backingOf ss s;
-      after = backingOf ss s;
-      done = a;
-      promotes =
-          record {
-            changes = g .changes;
-            store = record { before = i; after = i };
-            there = h;
-            now = same-store _;
-            stores = (
-              λ k. (λ u. ⊎-elim (λ l. l) (λ e. rw e h) u, λ l. inl l),
-              λ k u. picked (λ b. SameStore b (backingOf ss k)) k s (λ e. rw e (same-store _)) (λ d. same-store _),
-            );
-            fixed = g .fixed;
-          };
-    }
+-- a call that refuses a store that is not listed, and else answers a question of the store's block
+module _ (m : Model) (bs : Bytes) (s : ℕ) (r : MMReport) (c : Call) (ask : Block → Block → ℕ → Type 0) (n : code c ≡ 0 → ⊥)
+    (row : checks m bs c ≡ (5 when noStore m s ∷ [])) (same : change m bs c .model ≡ m) where
+  abbrev block : Block
+  block = blockOf (storeOf (m .stores) s)
+
+  size-meets : (ΞMemoryBlock block block → ask block block (change m bs c .value)) → step m bs c .report ≡ number r
+      → (Promoted (λ b b′. (ask (b .block) (b′ .block) (step m bs c .value) × ΞBackingStore b b′) × Success r) (globalOf m) (globalOf (step m bs c .model)) s × Success r)
+      ⊎ GlobalNonexistentBS (globalOf m) (globalOf (step m bs c .model)) s r
+  unfolding allChecks
+  size-meets answers h =
+      let o = told-sound m bs c r n h in
+      ⊎-elim
+      (λ a. let f = simp reflect at (rw row at (accepted-exact m bs c .0 (a .1))) in
+      let x = store-stays _ (store-invariant m (o .0) s (f .1 .0)) in
+      inl (rw (step-accepted m bs c (a .1), same) (asked m (o .0) s (f .1 .0) _ ((answers (block-stays x), x), a .0)), a .0))
+      (λ a. inr (⊎-elim (λ x. no-store (o .0) (a .0) (not-iff _ .0 (x .0)) (x .1)) (λ x. absurd (unchecked refl (x .1))) (checked (rw row at (a .1)))))
+      (o .1)
 
 module _ (m : Model) (bs : Bytes) (s : ℕ) (r : MMReport) where
   pub total-meets : step m bs (totalOf s) .report ≡ number r
       → RGlobalGetTotalSize (globalOf m) (globalOf (step m bs (totalOf s) .model)) s (step m bs (totalOf s) .value) r
-  unfolding checks change allChecks
-  total-meets h =
-      let c = totalOf s in
-      let o = told-sound m bs c r (omega arith) h in
-      ⊎-elim
-      (λ a. let f = simp reflect at (accepted-exact m bs c .0 (a .1)) in
-      let x = store-stays _ (store-invariant m (o .0) s (f .1 .0)) in
-      inl (rw (step-accepted m bs c (a .1)) (asked m (o .0) s (f .1 .0) _ ((record { stays = block-stays x; total = refl }, x), a .0)), a .0))
-      (λ a. inr (⊎-elim (λ x. no-store (o .0) (a .0) (not-iff _ .0 (x .0)) (x .1)) (λ x. absurd (unchecked refl (x .1))) (checked (a .1))))
-      (o .1)
+  unfolding checks change
+  total-meets h = size-meets m bs s r (totalOf s) MBGetTotalSize (omega arith) refl refl (λ x. record { stays = x; total = refl }) h
 
   pub used-meets : step m bs (usedOf s) .report ≡ number r
       → RGlobalGetUsedSize (globalOf m) (globalOf (step m bs (usedOf s) .model)) s (step m bs (usedOf s) .value) r
-  unfolding checks change allChecks
+  unfolding checks change
   used-meets h =
-      let c = usedOf s in
-      let o = told-sound m bs c r (omega arith) h in
-      ⊎-elim
-      (λ a. let f = simp reflect at (accepted-exact m bs c .0 (a .1)) in
-      let x = store-stays _ (store-invariant m (o .0) s (f .1 .0)) in
       let counted = run-counts (usedPart (storeOf (m .stores) s)) (λ y. (λ i. i, λ i. i)) in
-      inl (rw (step-accepted m bs c (a .1)) (asked m (o .0) s (f .1 .0) _ ((record { stays = block-stays x; used = counted }, x), a .0)), a .0))
-      (λ a. inr (⊎-elim (λ x. no-store (o .0) (a .0) (not-iff _ .0 (x .0)) (x .1)) (λ x. absurd (unchecked refl (x .1))) (checked (a .1))))
-      (o .1)
+      size-meets m bs s r (usedOf s) MBGetUsedSize (omega arith) refl refl (λ x. record { stays = x; used = counted }) h
 
   pub free-meets : step m bs (freeOf s) .report ≡ number r
       → RGlobalGetFreeSize (globalOf m) (globalOf (step m bs (freeOf s) .model)) s (step m bs (freeOf s) .value) r
-  unfolding checks change allChecks
-  free-meets h =
-      let c = freeOf s in
-      let o = told-sound m bs c r (omega arith) h in
-      ⊎-elim
-      (λ a. let f = simp reflect at (accepted-exact m bs c .0 (a .1)) in
-      let x = store-stays _ (store-invariant m (o .0) s (f .1 .0)) in
-      inl (rw (step-accepted m bs c (a .1)) (asked m (o .0) s (f .1 .0) _ ((record { stays = block-stays x; free = refl }, x), a .0)), a .0))
-      (λ a. inr (⊎-elim (λ x. no-store (o .0) (a .0) (not-iff _ .0 (x .0)) (x .1)) (λ x. absurd (unchecked refl (x .1))) (checked (a .1))))
-      (o .1)
+  unfolding checks change
+  free-meets h = size-meets m bs s r (freeOf s) MBGetFreeSize (omega arith) refl refl (λ x. record { stays = x; free = refl }) h
 
 -- ---- call 7
 

@@ -1,8 +1,8 @@
--- A sound model read as a state of the report's schemas, and the schemas' invariants of it. Assumes nothing.
+-- A sound model read as a state of 000's schemas, and that the schemas' invariants hold of it. Assumes nothing.
 use mathlib.Core.Bool.{Bool, true, _&&_}
 use mathlib.Core.List.{List, map, Memᴰ·map, Memᴰ·of-map}
 use mathlib.Core.Logic.{_↔_, inl, inr, ⊎-elim}
-use mathlib.Core.Path.{_≡_, refl, sym, _∙_, ap}
+use mathlib.Core.Path.{_≡_, sym, _∙_, ap}
 use Prim.Native.Nat.{ℕ, _<_}
 use native.Mathlib.Decide.{ℕ-discrete, decLt}
 use native.Mathlib.Omega.{arith}
@@ -11,16 +11,16 @@ use Rattle.lists.specs.Lists.{_∈_, keep}
 use Rattle.lists.specs.Keyed.{has}
 use Rattle.lists.specs.Tests.{reflect}
 use Rattle.lists.specs.ListLaws.{keep-member, member-keep}
-use Rattle.lists.specs.KeyedLaws.{member-has, at-member, at-key, member-at}
-use Rattle.lists.specs.KeyedChanges.{two-by-key}
+use Rattle.lists.specs.KeyedLaws.{member-has, at-member, member-at}
 use Rattle.meaning.specs.Model.{Store, Stack, Model, whole, usedPart, freePart, stackRun, storeName, threadName, stackName, noSuchStore, noSuchStack, storeOf, contextIn, stackOf, rootOf}
 use Rattle.meaning.specs.Nesting.{Child, Nested, child, inChild, parentIn}
 use Rattle.meaning.specs.Facts.{_Holds_, Sound}
-use Rattle.meaning.specs.Laws.Nested.{child-link, link-child, root-listed}
+use Rattle.meaning.specs.Laws.Nested.{named, child-link, link-child, root-listed}
 use Rattle.meaning.specs.Laws.Within.{context-listed}
-use Rattle.laws.specs.ByName.{Listed, named, ByName, by-name}
+use Rattle.laws.specs.ByName.{Listed, ByName, by-name}
 use Rattle.laws.specs.Nesting.{never-in-itself, inner-listed, outer-listed, others-in-root}
-use Rattle.laws.specs.Geometry.{nested-inside}
+use Rattle.laws.specs.Geometry.{nested-inside, siblings}
+use Rattle.laws.specs.StackCalls.{in-stacks, stack-named, stacks-apart}
 use Rattle.schemas.specs.Memory.{Numbers, _≐_, _apart_, Finite, cells, run-counts, Partial, Plus, one, more}
 use Rattle.schemas.specs.Blocks.{Block}
 use Rattle.schemas.specs.Stores.{Backing, BackingStore}
@@ -29,6 +29,7 @@ use Rattle.schemas.specs.Stacks.{StackSpace, StackMemoryManager}
 
 -- ---- the reading
 
+-- a store's memory: its free part, its total and its used part; the overhead is in the total alone
 abbrev pub blockOf : Store → Block
 blockOf s = record { free = freePart s; total = whole s; used = cells (usedPart s) }
 
@@ -36,6 +37,7 @@ blockOf s = record { free = freePart s; total = whole s; used = cells (usedPart 
 abbrev pub backingOf : List Store → ℕ → Backing
 backingOf ss k = record { block = blockOf (storeOf ss k); children = λ x. Child ss x k; self = storeOf ss k .start }
 
+-- the stores, by identifier
 abbrev pub storesOf : List Store → Partial Backing
 storesOf ss = record { dom = Listed ss; at = backingOf ss }
 
@@ -43,9 +45,11 @@ storesOf ss = record { dom = Listed ss; at = backingOf ss }
 abbrev pub Known : Model → ℕ → Type 0
 Known m t = has threadName (m .threads) t ≡ true
 
+-- the threads' contexts, by identifier
 abbrev pub contextsOf : Model → Partial ℕ
 contextsOf m = record { dom = Known m; at = contextIn (m .threads) }
 
+-- the variables of GlobalMemoryManager
 abbrev pub globalOf : Model → Global
 globalOf m =
     record {
@@ -59,6 +63,7 @@ globalOf m =
 abbrev pub InStack : List Stack → Numbers
 InStack ks a = (k : Stack) × (k ∈ ks) × (stackRun k Holds a)
 
+-- the variables of StackMemoryManager: all stacks together are the used memory
 abbrev pub stacksOf : Model → StackSpace
 stacksOf m =
     record {
@@ -122,10 +127,7 @@ module _ (m : Model) (sound : Sound m) where
   -- two children of one store share no address
   children-apart : (k i j : ℕ) → Child ss i k → Child ss j k → i < j → cells (whole (storeOf ss i)) apart cells (whole (storeOf ss j))
   children-apart k i j c d l a x y =
-      let p = child-link m sound c in
-      let q = child-link m sound d in
-      let low = by .lowest k (outer-listed m sound (child c)) in
-      let z = by .apart i j (inner-listed m sound (child c)) (inner-listed m sound (child d)) (omega arith) (p .0 ∙ sym (q .0)) l in
+      let z = siblings m sound c d l in
       omega (arith, named ss i, named ss j)
 
   -- GlobalMemoryManager
@@ -160,17 +162,8 @@ module _ (m : Model) (sound : Sound m) where
 
   -- ---- invariants of the stacks
 
-  stack-found : {k : Stack} → k ∈ m .stacks → stackOf (m .stacks) (k .start) ≡ k
+  pub stack-found : {k : Stack} → k ∈ m .stacks → stackOf (m .stacks) (k .start) ≡ k
   stack-found i = member-at stackName noSuchStack (m .stacks) (sound .rule6 .rises) i
-
-  stack-name : (k : ℕ) → stackOf (m .stacks) k .start ≡ k
-  stack-name k = at-key stackName noSuchStack (λ x. refl) (m .stacks) k
-
-  stacks-apart : (i j : ℕ) → has stackName (m .stacks) i ≡ true → has stackName (m .stacks) j ≡ true → i < j
-      → cells (stackRun (stackOf (m .stacks) i)) apart cells (stackRun (stackOf (m .stacks) j))
-  stacks-apart i j h k l =
-      two-by-key stackName _ (m .stacks) (sound .rule6 .rises) (sound .rule6 .apart) (at-member stackName noSuchStack (m .stacks) i h)
-      (at-member stackName noSuchStack (m .stacks) j k) (omega (arith, stack-name i, stack-name j))
 
   -- StackMemoryManager
   pub stack-invariant : StackMemoryManager (stacksOf m)
@@ -186,13 +179,11 @@ module _ (m : Model) (sound : Sound m) where
             };
         parts =
             record {
-              disjoint = λ i j h k n. elim (decLt i j) [
-                | yes l ↦ stacks-apart i j h k l
-                | no l ↦ λ a x y. stacks-apart j i k h (omega arith) a y x
-              ];
+              disjoint = λ i j h k n.
+                  stacks-apart m sound (in-stacks (m .stacks) i h) (in-stacks (m .stacks) j k) (λ e. n (sym (stack-named (m .stacks) i) ∙ e ∙ stack-named (m .stacks) j));
               union = λ a. (
                 λ x. (x .0 .start, member-has stackName (m .stacks) (x .1), rw (stack-found (x .1)) (x .2)),
-                λ x. (stackOf (m .stacks) (x .0), at-member stackName noSuchStack (m .stacks) (x .0) (x .1), x .2),
+                λ x. (stackOf (m .stacks) (x .0), in-stacks (m .stacks) (x .0) (x .1), x .2),
               );
             };
       }

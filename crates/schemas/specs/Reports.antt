@@ -1,4 +1,4 @@
--- The report's type MMReport, the number of each report, and the schema Success. Assumes nothing.
+-- 000's type MMReport, the number of each of its reports, and the schema Success. Assumes nothing.
 use mathlib.Core.List.{[], _∷_}
 use mathlib.Core.Path.{_≡_, refl, sym, _∙_, ap}
 use Prim.Native.Nat.{ℕ, _<_}

@@ -1,4 +1,4 @@
--- Call 11 meets the report's schema for resizing a backing store, at the new total: the size asked for with the overhead. Assumes nothing.
+-- Call 11 meets 000's schema for resizing a backing store, at the new total: the size asked for with the overhead. Assumes nothing.
 use mathlib.Core.Bool.{false}
 use mathlib.Core.List.{List}
 use mathlib.Core.Logic.{_↔_, inl, inr, ⊎-elim}
@@ -15,9 +15,9 @@ use Rattle.meaning.specs.Facts.{Sound}
 use Rattle.meaning.specs.Reports.{notOnlyChild}
 use Rattle.meaning.specs.Changes.{withUsed, withTotal, withStores}
 use Rattle.meaning.specs.Calls.{resize, checks, change, allChecks, step}
-use Rattle.meaning.specs.Laws.Nested.{child-link}
+use Rattle.meaning.specs.Laws.Nested.{named, child-link}
 use Rattle.meaning.specs.Laws.Step.{accepted-exact, step-accepted}
-use Rattle.laws.specs.ByName.{Listed, totalIn, usedIn, named, by-name}
+use Rattle.laws.specs.ByName.{Listed, totalIn, usedIn, by-name}
 use Rattle.laws.specs.Nesting.{inner-listed}
 use Rattle.laws.specs.Geometry.{nested-inside}
 use Rattle.laws.specs.StoreChanges.{Resized, resized}
@@ -28,7 +28,7 @@ use Rattle.schemas.specs.Stores.{SameStore, BSResize, BSResizeChild}
 use Rattle.schemas.specs.Global.{Global, SameStores, GlobalResizeBS, RGlobalResizeBS}
 use Rattle.schemas.specs.Reading.{backingOf, storesOf, globalOf, store-invariant}
 use Rattle.schemas.specs.Steps.{checked, unchecked, told-sound, no-store, same-store, global-stays}
-use Rattle.schemas.specs.Lines.{same-line, children-same, changes, fixed-vars}
+use Rattle.schemas.specs.StoreSteps.{same-line, children-same, stores-change, fixed-vars}
 use Rattle.schemas.specs.ResizeErrors.{is-child, parent-there, only-child, not-only, not-empty, no-room}
 
 module _ (m : Model) (sound : Sound m) (x : ℕ) (there : Listed (m .stores) x) (notRoot : x ≡ rootOf (m .stores) → ⊥) (alone : notOnlyChild m x ≡ false)
@@ -182,7 +182,7 @@ module _ (m : Model) (sound : Sound m) (x : ℕ) (there : Listed (m .stores) x) 
   resizes : GlobalResizeBS (globalOf m) (globalOf (withStores m ss′)) x n x
   resizes =
       record {
-        changes = changes m sound ss′ sound′;
+        changes = stores-change m sound ss′ sound′;
         notRoot = notRoot;
         there = there;
         child = backingOf ss′ x;
@@ -201,7 +201,7 @@ module _ (m : Model) (sound : Sound m) (x : ℕ) (there : Listed (m .stores) x) 
 
 -- ---- the call
 
--- Every report but 13, which the report's text does not have here. The identifier stays.
+-- Every report but 13, which 000 does not have here. The identifier stays.
 pub resize-meets : (m : Model) (bs : Bytes) (x n : ℕ) (r : MMReport) → step m bs (resize x n) .report ≡ number r → (number r ≡ 13 → ⊥)
     → RGlobalResizeBS (globalOf m) (globalOf (step m bs (resize x n) .model)) x (storeTaken n) x r
 unfolding checks change allChecks

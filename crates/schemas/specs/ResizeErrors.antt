@@ -1,4 +1,4 @@
--- The refusals of call 11 meet the report's error schemas, and what an only child's parent is. Assumes nothing.
+-- Refusals 8, 2 and 1 of call 11 meet 000's error schemas. First, a store that is not the root, and its parent. Assumes nothing.
 use mathlib.Core.Bool.{true, false, not, _&&_}
 use mathlib.Core.List.{List}
 use mathlib.Core.Logic.{inl, inr, ⊎-elim}
@@ -16,8 +16,8 @@ use Rattle.meaning.specs.Model.{Store, Model, whole, usedPart, free, storeOf, r
 use Rattle.meaning.specs.Nesting.{Child, child, parentIn}
 use Rattle.meaning.specs.Facts.{Sound}
 use Rattle.meaning.specs.Reports.{notOnlyChild}
-use Rattle.meaning.specs.Laws.Nested.{child-link, link-child}
-use Rattle.laws.specs.ByName.{Listed, totalIn, usedIn, named, by-name, root-start}
+use Rattle.meaning.specs.Laws.Nested.{named, child-link, link-child}
+use Rattle.laws.specs.ByName.{Listed, totalIn, usedIn, by-name, root-start}
 use Rattle.laws.specs.Nesting.{outer-listed}
 use Rattle.schemas.specs.Memory.{_≐_, ⟨_⟩, run-counts}
 use Rattle.schemas.specs.Reports.{MMReport, number, number-names}
@@ -25,7 +25,7 @@ use Rattle.schemas.specs.Global.{GlobalNotOnlyChild, GlobalBSResizeError
 use Rattle.schemas.specs.Reading.{backingOf, globalOf, store-invariant}
 use Rattle.schemas.specs.Steps.{store-stays, block-stays, global-stays}
 
--- ---- an only child
+-- ---- a store that is not the root
 
 module _ (m : Model) (sound : Sound m) (x : ℕ) (there : Listed (m .stores) x) (notRoot : x ≡ rootOf (m .stores) → ⊥) where
   abbrev ss : List Store
@@ -44,6 +44,7 @@ module _ (m : Model) (sound : Sound m) (x : ℕ) (there : Listed (m .stores) x) 
   pub parent-there : Listed ss p
   parent-there = outer-listed m sound (child is-child)
 
+  -- where report 8 is not told, it is its parent's only child
   pub only-child : notOnlyChild m x ≡ false → (λ y. Child ss y p) ≐ ⟨ x ⟩
   only-child alone y = (
     λ c. elim (ℕ-discrete y x) [
@@ -56,6 +57,7 @@ module _ (m : Model) (sound : Sound m) (x : ℕ) (there : Listed (m .stores) x) 
     λ e. rw e is-child,
   )
 
+  -- 8
   pub not-only : {m′ : Model} {r : MMReport} → m′ ≡ m → notOnlyChild m x ≡ true → 8 ≡ number r → GlobalNotOnlyChild (globalOf m) (globalOf m′) x r
   not-only e h q =
       let s = any-member (λ s. eqb (s .parent) p && not (eqb (s .start) x)) (rest ss) h in
@@ -68,6 +70,7 @@ module _ (m : Model) (sound : Sound m) (x : ℕ) (there : Listed (m .stores) x) 
         told = number-names q;
       }
 
+  -- 2
   pub not-empty : {m′ : Model} {r : MMReport} (n : ℕ) → m′ ≡ m → (usedIn ss x ≡ 0 → ⊥) → 2 ≡ number r → GlobalBSResizeError (globalOf m) (globalOf m′) x n r
   not-empty n e h q =
       let s = store-stays _ (store-invariant m sound x there) in
@@ -91,7 +94,7 @@ module _ (m : Model) (sound : Sound m) (x : ℕ) (there : Listed (m .stores) x) 
         failed = λ z. omega (arith, q, ap number z);
       }
 
-  -- the store ends where its parent's free part begins
+  -- 1: the store ends where its parent's free part begins, and n is more than both together
   module _ (alone : notOnlyChild m x ≡ false) (last : x + totalIn ss x ≡ p + storeOverhead + usedIn ss p) where
     pub no-room : {m′ : Model} {r : MMReport} (n : ℕ) → m′ ≡ m → totalIn ss x + free (storeOf ss p) < n → 1 ≡ number r
         → GlobalBSResizeChildError (globalOf m) (globalOf m′) x n x r

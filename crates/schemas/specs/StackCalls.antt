@@ -1,19 +1,18 @@
--- Calls 12 and 13 meet the report's schemas: make stack, destroy stack. Assumes nothing.
+-- Calls 12 and 13 meet 000's schemas: make stack, destroy stack. Assumes nothing.
 use mathlib.Core.Bool.{true, false, not}
-use mathlib.Core.List.{List, [], _∷_, List·Memᴰ·head as here, List·Memᴰ·tail as there, List·Memᴰ·cases-cons as cases-cons}
-use mathlib.Core.Logic.{_⊎_, inl, inr, ⊎-elim}
+use mathlib.Core.List.{List}
+use mathlib.Core.Logic.{Iff·symm, _⊎_, inl, inr, ⊎-elim}
 use mathlib.Core.Path.{_≡_, refl, sym, _∙_, ap}
 use Prim.Native.Nat.{ℕ, _+_, _<_, _≤_}
 use native.Mathlib.Decide.{decLt}
 use native.Mathlib.Omega.{arith}
-use lib.Dec.{ltb, eqb}
-use borrow.Author.Tests.{ltb-true, eqb-true, eqb-false, ne-eqb, not-false}
+use lib.Dec.{eqb}
+use borrow.Author.Tests.{ltb-true, eqb-true, eqb-false, ne-eqb}
 use Rattle.lists.specs.Lists.{_∈_}
 use Rattle.lists.specs.Keyed.{has, insert, remove}
-use Rattle.lists.specs.Tests.{tested, never, false-of, and-iff, unless-iff, not-iff, not-false-iff, reflect}
+use Rattle.lists.specs.Tests.{tested, never, and-iff, not-iff, not-false-iff, reflect}
 use Rattle.lists.specs.ListLaws.{keep-member, member-keep}
-use Rattle.lists.specs.KeyedLaws.{has-member, member-has, at-member, member-at}
-use Rattle.lists.specs.KeyedChanges.{insert-member, has-insert, at-insert-new, at-insert-old, has-keep, at-keep}
+use Rattle.lists.specs.KeyedChanges.{insert-member, member-insert, has-insert-iff, at-insert-new, at-insert-old, has-remove-iff, at-remove}
 use Rattle.names.specs.Overhead.{stackTaken}
 use Rattle.meaning.specs.Model.{Run, Stack, Model, Bytes, end, stackRun, stackName, noSuchStack, stackOf}
 use Rattle.meaning.specs.Reports.{touchesNoEnd}
@@ -21,11 +20,12 @@ use Rattle.meaning.specs.Facts.{_ApartFrom_, Sound}
 use Rattle.meaning.specs.Changes.{shortened, joined, withStacks}
 use Rattle.meaning.specs.Calls.{makeStack, destroyStack, checks, change, allChecks, step}
 use Rattle.meaning.specs.Laws.Step.{accepted-exact, step-accepted}
+use Rattle.laws.specs.StackCalls.{touching, in-stacks, stack-named, stacks-apart, new-name}
 use Rattle.laws.specs.EachCall.{change-sound}
 use Rattle.schemas.specs.Memory.{_≐_, _apart_, _∪_, _∖_, ⟨_⟩, Contiguous, cells, run-contiguous, contiguous-run, _⊕_⟼_, _⩤_, picked}
 use Rattle.schemas.specs.Reports.{MMReport, number, number-names, number-most}
 use Rattle.schemas.specs.Stacks.{SameStacks, StackCreate, StackDelete, RStackCreate, RStackDelete}
-use Rattle.schemas.specs.Reading.{InStack, stacksOf, stack-invariant}
+use Rattle.schemas.specs.Reading.{InStack, stacksOf, stack-found, stack-invariant}
 use Rattle.schemas.specs.Steps.{checked, unchecked, told-sound, stacks-stay}
 
 -- ---- runs
@@ -46,13 +46,7 @@ shortened-cells area r n l a = elim (tested (eqb n (r .length))) [
 joined-cells : (r k : Run) → touchesNoEnd r k ≡ false → cells (joined r k) ≐ (cells r ∪ cells k)
 joined-cells r k h a = elim (tested (eqb (r .length) 0)) [
   | inl e ↦ let q = eqb-true (r .length) 0 e in rw e (λ i. inr i, λ i. ⊎-elim (λ j. absurd (omega arith)) (λ j. j) i)
-  | inr e ↦
-      let t : (eqb (end k) (r .start) ≡ false) → (eqb (end r) (k .start) ≡ true) = unless-iff (eqb (end k) (r .start)) _ .0 (not-false _ (rw e at h)) in
-      let touch : (end k ≡ r .start) ⊎ (end r ≡ k .start) = elim (tested (eqb (end k) (r .start))) [
-        | inl f ↦ inl (eqb-true (end k) (r .start) f)
-        | inr f ↦ inr (eqb-true (end r) (k .start) (t f))
-      ] in
-      rw e (⊎-elim
+  | inr e ↦ rw e (⊎-elim
       (λ q. (
         λ i. elim (decLt a (r .start)) [
           | yes b ↦ inr (omega arith)
@@ -67,7 +61,7 @@ joined-cells r k h a = elim (tested (eqb (r .length) 0)) [
         ],
         λ u. ⊎-elim (λ j. omega arith) (λ j. omega arith) u,
       ))
-      touch)
+      (touching r k h e))
 ]
 
 -- a run and one behind it, with a gap between them, are not contiguous
@@ -95,13 +89,6 @@ not-joined r k h p n c =
 
 -- ---- the stacks after each call
 
-member-insert : (n : Stack) (l : List Stack) {x : Stack} → (x ≡ n) ⊎ (x ∈ l) → x ∈ insert stackName n l
-member-insert n [] u = ⊎-elim (λ e. here e) (λ i. there i) u
-member-insert n (y ∷ l) u = elim (tested (ltb (n .start) (y .start))) [
-  | inl e ↦ rw e (⊎-elim (λ q. here q) (λ i. there i) u)
-  | inr e ↦ rw e (⊎-elim (λ q. there (member-insert n l (inl q))) (λ i. ⊎-elim (λ q. here q) (λ j. there (member-insert n l (inr j))) (cases-cons i)) u)
-]
-
 module _ (m : Model) (sound : Sound m) where
   abbrev ks : List Stack
   ks = m .stacks
@@ -113,24 +100,11 @@ module _ (m : Model) (sound : Sound m) where
     abbrev made : Model
     made = withStacks m (insert stackName new ks) (shortened (m .stackArea) (m .freeRun) (stackTaken n))
 
-    new-name : has stackName ks (new .start) ≡ false
-    new-name =
-        false-of _
-        (λ h. let x = has-member stackName ks (new .start) h in
-        let l = sound .rule6 .least (x .0) (x .1) in
-        sound .rule6 .taken (x .0) (x .1) (new .start) (omega (arith, x .2)) (omega arith))
-
     made-stacks : SameStacks (stacksOf m .stacks ⊕ new .start ⟼ stackRun new) (stacksOf made .stacks)
     made-stacks = (
-      λ k. (
-        λ u. has-insert stackName new ks k ∙ unless-iff (eqb (new .start) k) _ .1 (λ d. ⊎-elim (λ l. l) (λ e. absurd (eqb-false (new .start) k d (sym e))) u),
-        λ l. elim (tested (eqb (new .start) k)) [
-          | inl e ↦ inr (sym (eqb-true (new .start) k e))
-          | inr e ↦ inl (unless-iff (eqb (new .start) k) _ .0 (sym (has-insert stackName new ks k) ∙ l) e)
-        ],
-      ),
+      λ k. Iff·symm (has-insert-iff stackName new ks k),
       λ k u. picked (λ r. cells (stackRun (stackOf (insert stackName new ks) k)) ≐ cells r) k (new .start)
-          (λ e. rw (e, at-insert-new stackName noSuchStack new ks new-name) (λ a. (λ i. i, λ i. i)))
+          (λ e. rw (e, at-insert-new stackName noSuchStack new ks (new-name m sound n room)) (λ a. (λ i. i, λ i. i)))
           (λ d. rw (at-insert-old stackName noSuchStack new ks k (λ e. d (sym e))) (λ a. (λ i. i, λ i. i))),
     )
 
@@ -140,7 +114,7 @@ module _ (m : Model) (sound : Sound m) where
         let j = stack-invariant made after in
         record {
           changes = record { before = i; after = j };
-          new = λ h. never _ h new-name;
+          new = λ h. never _ h (new-name m sound n room);
           allocated = stackRun new;
           allocates =
               inl (
@@ -151,7 +125,7 @@ module _ (m : Model) (sound : Sound m) where
                   taken = λ a h. omega arith;
                   used = λ a. (
                     λ x. ⊎-elim (λ q. inr (rw q at (x .2))) (λ k. inl (x .0, k, x .2)) (insert-member stackName new ks (x .1)),
-                    λ u. ⊎-elim (λ x. (x .0, member-insert new ks (inr (x .1)), x .2)) (λ h. (new, member-insert new ks (inl refl), h)) u,
+                    λ u. ⊎-elim (λ x. (x .0, member-insert stackName new ks (inr (x .1)), x .2)) (λ h. (new, member-insert stackName new ks (inl refl), h)) u,
                   );
                   free = shortened-cells (m .stackArea) (m .freeRun) (stackTaken n) room;
                   total = λ a. (λ h. h, λ h. h);
@@ -168,36 +142,24 @@ module _ (m : Model) (sound : Sound m) where
     abbrev left : Model
     left = withStacks m (remove stackName k ks) (joined (m .freeRun) (stackRun gone))
 
-    gone-in : gone ∈ ks
-    gone-in = at-member stackName noSuchStack ks k listed
-
     -- a stack of another name shares no address with the one that goes
     others-apart : (x : Stack) → x ∈ ks → (x .start ≡ k → ⊥) → cells (stackRun x) apart cells (stackRun gone)
-    others-apart x i d a h j =
-        let found : stackOf ks (x .start) ≡ x = member-at stackName noSuchStack ks (sound .rule6 .rises) i in
-        stack-invariant m sound .parts .disjoint (x .start) k (member-has stackName ks i) listed d a (rw found h) j
+    others-apart x i d = stacks-apart m sound i (in-stacks ks k listed) (λ e. d (e ∙ stack-named ks k))
 
     left-used : InStack (remove stackName k ks) ≐ (InStack ks ∖ cells (stackRun gone))
     left-used a = (
       λ x. let o = keep-member (λ y. not (eqb (y .start) k)) ks (x .1) in
           ((x .0, o .0, x .2), others-apart (x .0) (o .0) (eqb-false _ k (not-iff _ .0 (o .1))) a (x .2)),
       λ u. let x = u .0 in
-          let other : x .0 .start ≡ k → ⊥ = λ e.
-          let found : stackOf ks (x .0 .start) ≡ x .0 = member-at stackName noSuchStack ks (sound .rule6 .rises) (x .1) in
-          u .1 (rw (← found, e) at (x .2)) in
+          let other : x .0 .start ≡ k → ⊥ = λ e. u .1 (rw (← stack-found m sound (x .1), e) at (x .2)) in
           (x .0, member-keep (λ y. not (eqb (y .start) k)) ks (x .1) (not-iff _ .1 (ne-eqb _ k other)), x .2),
     )
 
     left-stacks : SameStacks (⟨ k ⟩ ⩤ stacksOf m .stacks) (stacksOf left .stacks)
-    left-stacks =
-        let other : (j : ℕ) → (j ≡ k → ⊥) → not (eqb j k) ≡ true = λ j d. not-iff _ .1 (ne-eqb j k d) in (
-          λ j. (
-            λ u. has-keep stackName (λ x. not (eqb x k)) ks j ∙ and-iff (not (eqb j k)) _ .1 (other j (u .1), u .0),
-            λ l. let b = and-iff (not (eqb j k)) _ .0 (sym (has-keep stackName (λ x. not (eqb x k)) ks j) ∙ l) in
-                (b .1, eqb-false j k (not-iff _ .0 (b .0))),
-          ),
-          λ j u. rw (at-keep stackName (λ x. not (eqb x k)) noSuchStack ks j (other j (u .1))) (λ a. (λ i. i, λ i. i)),
-        )
+    left-stacks = (
+      λ j. Iff·symm (has-remove-iff stackName k ks j),
+      λ j u. rw (at-remove stackName noSuchStack k ks j (u .1)) (λ a. (λ i. i, λ i. i)),
+    )
 
     deleted : touchesNoEnd (m .freeRun) (stackRun gone) ≡ false → Sound left → StackDelete (stacksOf m) (stacksOf left) k
     deleted touches after =
@@ -254,7 +216,7 @@ destroy-stack-meets m bs k r h =
     (λ x. inl (record { stays = stacks-stay (o .0) (a .0); missing = λ i. never _ i (not-iff _ .0 (x .0)); told = number-names (x .1) }))
     (λ x. let listed = not-false-iff _ .0 (x .0) in
     inr (⊎-elim
-    (λ y. let i = gone-in m (o .0) k listed in
+    (λ y. let i = in-stacks (m .stacks) k listed in
     let least = o .0 .rule6 .least (stackOf (m .stacks) k) i in
     record {
       stays = stacks-stay (o .0) (a .0);

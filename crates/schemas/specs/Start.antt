@@ -1,4 +1,4 @@
--- Call 0 meets the report's two initialisations. Assumes nothing.
+-- Call 0 meets 000's two initialisations. Assumes nothing.
 use mathlib.Core.Bool.{false}
 use mathlib.Core.List.{List, List·Memᴰ·not-nil as nowhere, List·Memᴰ·eq-of-singleton as only}
 use mathlib.Core.Logic.{_⊎_, inl, inr, ⊎-elim}

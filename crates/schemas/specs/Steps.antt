@@ -1,4 +1,4 @@
--- What every call has in common: a report of the report's type is Success with the change made, or a refusal that leaves the state. Assumes nothing.
+-- What every call has in common: a call that tells a report of MMReport told MMokay and made its change, or refused and left the model. Assumes nothing.
 use mathlib.Core.Bool.{true, false}
 use mathlib.Core.List.{List, [], _∷_, nil≢cons}
 use mathlib.Core.Logic.{_⊎_, inl, inr, ⊎-elim}
@@ -16,24 +16,27 @@ use Rattle.meaning.specs.Reports.{Check, First, here, later}
 use Rattle.meaning.specs.Calls.{Call, code, checks, allChecks, step}
 use Rattle.meaning.specs.Laws.Agree.{sound-agrees}
 use Rattle.meaning.specs.Laws.Step.{step-refused, report-exact, accepted-sound}
+use Rattle.laws.specs.ByName.{Listed}
+use Rattle.schemas.specs.Memory.{picked}
 use Rattle.schemas.specs.Reports.{MMReport, MMokay, number, number-names, number-most}
 use Rattle.schemas.specs.Blocks.{Block, SameBlock, ΞMemoryBlock}
 use Rattle.schemas.specs.Stores.{Backing, BackingStore, SameStore, ΞBackingStore}
-use Rattle.schemas.specs.Global.{ΞGlobalMemoryManager, GlobalNonexistentBS}
+use Rattle.schemas.specs.Global.{ΞGlobalMemoryManager, Promoted, GlobalNonexistentBS}
 use Rattle.schemas.specs.Threads.{InvalidThreadAC}
 use Rattle.schemas.specs.Stacks.{ΞStackMemoryManager}
-use Rattle.schemas.specs.Reading.{globalOf, stacksOf, global-invariant, stack-invariant}
+use Rattle.schemas.specs.Reading.{backingOf, globalOf, stacksOf, store-invariant, global-invariant, stack-invariant}
 
 -- the first check refuses, or it does not and a later one does
 pub checked : {n : ℕ} {k : Check} {ks : List Check} → First n (k ∷ ks) → ((k .condition ≡ true) × (k .report ≡ n)) ⊎ ((k .condition ≡ false) × First n ks)
 checked (here e q) = inl (e, q)
 checked (later e f) = inr (e, f)
 
+-- no checks, no refusal
 pub unchecked : {n : ℕ} {ks : List Check} → ks ≡ [] → First n ks → ⊥
 unchecked e (here _ _) = nil≢cons (sym e)
 unchecked e (later _ _) = nil≢cons (sym e)
 
--- what is known of a call that tells a report of the report's type
+-- what is known of a call that tells a report of MMReport
 abbrev Told : Model → Bytes → Call → MMReport → Type 0
 Told m bs c r = ((r ≡ MMokay) × (step m bs c .report ≡ 0)) ⊎ ((step m bs c .model ≡ m) × First (number r) (allChecks m bs c))
 
@@ -43,7 +46,7 @@ told m bs c r h = elim (ℕ-discrete (number r) 0) [
   | no d ↦ inr (ap (λ o. o .model) (step-refused m bs c (λ e. d (sym h ∙ e))), report-exact m bs c (number r) d .0 h)
 ]
 
--- Every call but a start tells it of a sound model, by a check of its row.
+-- A call other than a start tells such a report of a sound model only, and refuses by a check of its own row.
 abbrev ToldSound : Model → Bytes → Call → MMReport → Type 0
 ToldSound m bs c r = Sound m × (((r ≡ MMokay) × (step m bs c .report ≡ 0)) ⊎ ((step m bs c .model ≡ m) × First (number r) (checks m bs c)))
 
@@ -92,6 +95,31 @@ stacks-stay {m} sound e =
       block = same-block _;
       stacks = (λ a. (λ x. x, λ x. x), λ k h a. (λ x. x, λ x. x));
     })
+
+-- an operation that leaves a store as it is, promoted to a state that is left as it is
+pub asked : (m : Model) → Sound m → (s : ℕ) → Listed (m .stores) s → (ask : Backing → Backing → Type 0) → ask (backingOf (m .stores) s) (backingOf (m .stores) s)
+    → Promoted ask (globalOf m) (globalOf m) s
+asked m sound s h ask a =
+    let ss = m .stores in
+    let i = store-invariant m sound s h in
+    let g = global-stays {m = m} sound refl in
+    record {
+      store = backingOf ss s;
+      after = backingOf ss s;
+      done = a;
+      promotes =
+          record {
+            changes = g .changes;
+            store = record { before = i; after = i };
+            there = h;
+            now = same-store _;
+            stores = (
+              λ k. (λ u. ⊎-elim (λ l. l) (λ e. rw e h) u, λ l. inl l),
+              λ k u. picked (λ b. SameStore b (backingOf ss k)) k s (λ e. rw e (same-store _)) (λ d. same-store _),
+            );
+            fixed = g .fixed;
+          };
+    }
 
 -- ---- refusals that several calls share
 

@@ -1,4 +1,4 @@
--- Backing stores: the schemas of the report's section 1.2, each by its name, a field for each of its lines in their order. Assumes nothing.
+-- Backing stores: the schemas of 000, section 1.2, each by its name, a field for each of its lines in their order. Assumes nothing.
 use mathlib.Core.Logic.{_⊎_}
 use mathlib.Core.Path.{_≡_}
 use Prim.Native.Nat.{ℕ, _+_, _-_, _<_, _≤_}

@@ -1,16 +1,15 @@
--- Calls 3, 14 and 15 meet the report's schemas: set context, add thread, remove thread. Assumes nothing.
-use mathlib.Core.Bool.{true, false, not}
+-- Calls 3, 14 and 15 meet 000's schemas: set context, add thread, remove thread. Assumes nothing.
+use mathlib.Core.Bool.{false}
 use mathlib.Core.List.{List}
-use mathlib.Core.Logic.{_⊎_, inl, inr, ⊎-elim}
+use mathlib.Core.Logic.{Iff·symm, _⊎_, inl, inr, ⊎-elim}
 use mathlib.Core.Path.{_≡_, refl, sym, _∙_, ap}
 use Prim.Native.Nat.{ℕ}
 use native.Mathlib.Omega.{arith}
-use lib.Dec.{eqb}
-use borrow.Author.Tests.{eqb-true, eqb-false, eq-eqb, ne-eqb}
+use borrow.Author.Tests.{eq-eqb, ne-eqb}
 use Rattle.lists.specs.Keyed.{has, at, insert, remove}
-use Rattle.lists.specs.Tests.{tested, and-iff, unless-iff, not-iff, reflect}
+use Rattle.lists.specs.Tests.{tested, not-iff, reflect}
 use Rattle.lists.specs.KeyedLaws.{at-key}
-use Rattle.lists.specs.KeyedChanges.{has-insert, at-insert-new, at-insert-old, has-map, at-map, has-keep, at-keep}
+use Rattle.lists.specs.KeyedChanges.{has-insert-iff, at-insert-new, at-insert-old, has-map, at-map, has-remove-iff, at-remove}
 use Rattle.meaning.specs.Model.{Thread, Model, Bytes, threadName, noSuchThread, contextIn}
 use Rattle.meaning.specs.Facts.{Sound}
 use Rattle.meaning.specs.Changes.{withContext, placed, withThreads}
@@ -48,13 +47,7 @@ module _ (m : Model) (t s : ℕ) where
   new-contexts : has threadName ts t ≡ false → SameThreads set (contextsOf (withThreads m (insert threadName (record { identifier = t; context = s }) ts)))
   new-contexts h =
       let new : Thread = record { identifier = t; context = s } in (
-        λ k. (
-          λ u. has-insert threadName new ts k ∙ unless-iff (eqb t k) _ .1 (λ n. ⊎-elim (λ l. l) (λ e. absurd (eqb-false t k n (sym e))) u),
-          λ l. elim (tested (eqb t k)) [
-            | inl e ↦ inr (sym (eqb-true t k e))
-            | inr e ↦ inl (unless-iff (eqb t k) _ .0 (sym (has-insert threadName new ts k) ∙ l) e)
-          ],
-        ),
+        λ k. Iff·symm (has-insert-iff threadName new ts k),
         λ k u. picked (λ c. contextIn (insert threadName new ts) k ≡ c) k t
             (λ e. rw e (ap (λ x. x .context) (at-insert-new threadName noSuchThread new ts h)))
             (λ d. ap (λ x. x .context) (at-insert-old threadName noSuchThread new ts k (λ e. d (sym e)))),
@@ -68,15 +61,7 @@ module _ (m : Model) (t s : ℕ) where
 
 removed-contexts : (m : Model) (t : ℕ) → SameThreads (⟨ t ⟩ ⩤ contextsOf m) (contextsOf (withThreads m (remove threadName t (m .threads))))
 removed-contexts m t =
-    let ts = m .threads in
-    let other : (k : ℕ) → (k ≡ t → ⊥) → not (eqb k t) ≡ true = λ k d. not-iff _ .1 (ne-eqb k t d) in (
-      λ k. (
-        λ u. has-keep threadName (λ x. not (eqb x t)) ts k ∙ and-iff (not (eqb k t)) _ .1 (other k (u .1), u .0),
-        λ l. let b = and-iff (not (eqb k t)) _ .0 (sym (has-keep threadName (λ x. not (eqb x t)) ts k) ∙ l) in
-            (b .1, eqb-false k t (not-iff _ .0 (b .0))),
-      ),
-      λ k u. ap (λ x. x .context) (at-keep threadName (λ x. not (eqb x t)) noSuchThread ts k (other k (u .1))),
-    )
+    (λ k. Iff·symm (has-remove-iff threadName t (m .threads) k), λ k u. ap (λ x. x .context) (at-remove threadName noSuchThread t (m .threads) k (u .1)))
 
 -- only threads change
 only-threads : (m : Model) (ts : List Thread) → Sound m → Sound (withThreads m ts) → {f : Partial ℕ} → SameThreads f (contextsOf (withThreads m ts))
@@ -138,7 +123,7 @@ remove-meets m bs t r h =
     (λ a. absurd (unchecked refl (a .1)))
     (o .1)
 
--- ThreadSetAC and ThreadAdd ask for a known store: a context that is none has no state after. So refusal 5 is within the report at both.
+-- ThreadSetAC and ThreadAdd ask for a known store: a context that is none has no state after. So refusal 5 is within 000 at both.
 pub context-exists : {g g′ : Global} {t s : ℕ} → OnlyThreads g g′ (g .threadACs ⊕ t ⟼ s) → g .stores .dom s
 context-exists {g} {g′} {t} {s} o =
     let there : g′ .threadACs .dom t = o .threads .0 t .0 (inr refl) in

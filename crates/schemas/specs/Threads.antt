@@ -1,4 +1,4 @@
--- The thread memory manager: the schemas of the report's section 1.4, each by its name, a field for each of its lines in their order. Assumes nothing.
+-- The thread memory manager: the schemas of 000, section 1.4, each by its name, a field for each of its lines in their order. Assumes nothing.
 use mathlib.Core.Logic.{_↔_, _⊎_}
 use mathlib.Core.Path.{_≡_}
 use Prim.Native.Nat.{ℕ}
@@ -79,7 +79,7 @@ RThreadAllocateMemory g g′ thread request address report = ThreadAllocateMemor
 abbrev pub RThreadGetAC : Global → Global → ℕ → ℕ → MMReport → Type 1
 RThreadGetAC g g′ thread ac report = (ThreadGetAC g g′ thread ac × Success report) ⊎ InvalidThreadAC g g′ thread report
 
--- RThreadSetAC, with the invalid identifier of the report's table 1 (docs/SCHEMAS.md)
+-- RThreadSetAC, with the invalid identifier of 000's table 1 (docs/SCHEMAS.md)
 abbrev pub RThreadSetAC : Global → Global → ℕ → ℕ → MMReport → Type 1
 RThreadSetAC g g′ thread ac report =
     (ThreadSetAC g g′ thread ac × Success report) ⊎ (InvalidThreadAC g g′ thread report ⊎ GlobalNonexistentBS g g′ ac report)

@@ -10,7 +10,8 @@ use Rattle.meaning.specs.Facts.{Sound}
 use Rattle.meaning.specs.Rules.{sound}
 use Rattle.meaning.specs.Calls.{Call, step}
 use Rattle.meaning.specs.Laws.Agree.{sound-agrees}
-use Rattle.laws.specs.Fits.{Fits, fits-stay, limits-stay}
+use Rattle.laws.specs.Fixed.{limits-stay}
+use Rattle.laws.specs.Fits.{Fits, fits-stay}
 use Rattle.laws.specs.SoundStaysSound.{accepted-gives-sound}
 use Rattle.stores.specs.Stores
 use Rattle.threads.specs.Threads
@@ -32,7 +33,7 @@ written-sound m e f s =
       ),
     )
 
-table-limits : (t : Table) → reading t .limits ≡ tableLimits
+pub table-limits : (t : Table) → reading t .limits ≡ tableLimits
 unfolding reading
 table-limits t = refl
 
@@ -54,10 +55,10 @@ accepted-table-sound t n bs c h =
     broken-none _ .1
     (written-sound (step (reading t) bs c .model) (limits-stay (reading t) bs c ∙ table-limits t) (fits-stay (reading t) bs c (reading-fits t n)) (accepted-gives-sound (reading t) bs c h))
 
--- Its arrays are as long as they are declared.
-pub accepted-table-sized : (t : Table) → Sized t → (bs : Bytes) (c : Call) → Sized (written (step (reading t) bs c .model))
+-- What any call leaves, accepted or refused, has arrays as long as they are declared.
+pub table-sized-after : (t : Table) → Sized t → (bs : Bytes) (c : Call) → Sized (written (step (reading t) bs c .model))
 unfolding written Stores.written Threads.written Stacks.written
-accepted-table-sized t n bs c =
+table-sized-after t n bs c =
     let m = step (reading t) bs c .model in
     let f = fits-stay (reading t) bs c (reading-fits t n) in
     let e = limits-stay (reading t) bs c ∙ table-limits t in

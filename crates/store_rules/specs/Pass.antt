@@ -13,12 +13,12 @@ use Rattle.lists.specs.Choice.{if_then_else_}
 use Rattle.lists.specs.Lists.{_∈_, all, allTwo, AllTwo, rest}
 use Rattle.lists.specs.ListLaws.{all-member, all-of, allTwo-iff}
 use Rattle.lists.specs.Keyed.{rising, Rising}
-use Rattle.lists.specs.KeyedLaws.{rising-iff, at-member, at-key, member-at}
-use Rattle.lists.specs.KeyedChanges.{two-by-key, by-key-two}
+use Rattle.lists.specs.KeyedLaws.{rising-iff, at-member, member-at, two-by-key, by-key-two}
 use Rattle.lists.specs.Tests.{tested, same-test, and-iff, implies-iff, reflect}
 use Rattle.names.specs.Overhead.{storeOverhead}
 use Rattle.meaning.specs.Model.{Store, end, _inside_, _apartFrom_, whole, usedPart, storeName, listed, noSuchStore, storeOf}
 use Rattle.meaning.specs.Rules.{hangs, storesHang, fits, childInside, siblingsApart, storesFit}
+use Rattle.meaning.specs.Laws.Nested.{named}
 
 -- where the last child of k among those done ended; 0 where it has none there
 unfoldable pub ended : ℕ → List Store → ℕ
@@ -178,7 +178,7 @@ module _ (ss : List Store) (hung : storesHang ss ≡ true) where
             let i : q ∈ ss = at-member storeName noSuchStore ss (c .parent) (parent-listed c m) in
             let f = all-member (childInside q) (rest ss) (all-member (λ p. all (childInside p) (rest ss)) ss a q i) c m in
             implies-iff (eqb (c .parent) (q .start)) (whole c inside usedPart q) .0 f
-            (eq-eqb (c .parent) (q .start) (sym (at-key storeName noSuchStore (λ k. refl) ss (c .parent))));
+            (eq-eqb (c .parent) (q .start) (sym (named ss (c .parent))));
         behind = λ b c i m. absurd (nowhere i);
         ordered = by-key-two storeName InOrder (rest ss) (rest-rises ss rises) (λ c d m n k.
             apart-order c d k (hangs-of c m .1) (hangs-of d n .1)

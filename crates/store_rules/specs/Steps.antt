@@ -6,16 +6,14 @@ use mathlib.Core.Logic.{inl, inr}
 use mathlib.Core.Path.{_≡_, sym, _∙_, ap}
 use Prim.Native.Nat.{ℕ, zero, suc, _+_, _≤_, _<_}
 use native.Mathlib.Omega.{arith}
-use native.Mathlib.Nat.{min-eq-left}
 use lib.Dec.{eqb}
 use lib.ListN.{length, drop, set, getD, replicate, getD-replicate}
 use lib.Seq.{getD-set-same, getD-set-other}
 use borrow.Author.Tests.{eqb-true, eqb-false, ltb-true, lt-leb, le-leb}
 use Rattle.lists.specs.Lists.{_∈_, rest}
 use Rattle.lists.specs.Tests.{tested}
-use Rattle.lines.specs.Shape.{live, live-length, live-at}
+use Rattle.lines.specs.Shape.{rest-drop, live, live-full, live-at, from-here, from-end}
 use Rattle.lines.specs.Search.{place, has-place, at-place}
-use Rattle.lines.specs.Others.{rest-drop, from-here, from-end}
 use Rattle.lines.specs.Halves.{Halved, at-in, place-key}
 use Rattle.names.specs.declared.lines.Store.{Store as Line}
 use Rattle.meaning.specs.Model.{Store, end, whole, storeName, noSuchStore, storeOf}
@@ -44,7 +42,7 @@ module _ (n : ℕ) (ls : List Line) (short : n ≤ length ls) where
   at i = view (getD ls i zeros)
 
   long : length l ≡ n
-  long = live-length storeLine n ls ∙ min-eq-left short
+  long = live-full storeLine n ls short
 
   named : (k : ℕ) → place (isStore k) l < length l → getD l (place (isStore k) l) (view zeros) .start ≡ k
   named k h = place-key storeName l k (view zeros) h

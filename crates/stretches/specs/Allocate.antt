@@ -14,9 +14,9 @@ use Rattle.meaning.specs.Reports.{contextStore}
 use Rattle.meaning.specs.Facts.{_Inside_, Sound}
 use Rattle.meaning.specs.Changes.{lineWithUsed}
 use Rattle.meaning.specs.Calls.{allocate, checks, change, allChecks, step}
-use Rattle.meaning.specs.Laws.Nested.{nested-agrees}
+use Rattle.meaning.specs.Laws.Nested.{named, nested-agrees}
 use Rattle.meaning.specs.Laws.Step.{accepted-exact}
-use Rattle.laws.specs.ByName.{Listed, named, by-name}
+use Rattle.laws.specs.ByName.{Listed, by-name}
 use Rattle.laws.specs.Geometry.{nested-inside}
 use Rattle.meaning.specs.Laws.Within.{context-listed}
 use Rattle.stretches.specs.Stretch.{within, moved}

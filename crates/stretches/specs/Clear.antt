@@ -24,13 +24,13 @@ use Rattle.laws.specs.ByName.{Listed}
 use Rattle.laws.specs.Nesting.{nested-transitive}
 use Rattle.meaning.specs.Laws.Within.{context-listed}
 use Rattle.stretches.specs.Stretch.{within, instead, moved}
-use Rattle.stretches.specs.Cleared.{notIn, cleared-listed, nested-cleared, stays-listed, not-in-itself}
+use Rattle.stretches.specs.Cleared.{nested-cleared, not-in-itself}
 use Rattle.stretches.specs.Without.{moveLine, movedThreads, without, remade, moved-alike, instead-not-nested, without-empty}
 use Rattle.stretches.specs.Bytes.{same-bytes}
 use Rattle.stretches.specs.Follows.{Same, Follows, Unseen}
 use Rattle.stretches.specs.Lines.{used-swap, used-undone}
 use Rattle.laws.specs.SoundStaysSound.{sound-stays-sound}
-use Rattle.laws.specs.StoreChanges.{used-set}
+use Rattle.laws.specs.StoreChanges.{notIn, after-clear}
 use Rattle.stretches.specs.Contexts.{out-of, threads-same, context-same}
 
 -- the test of the stores that a clear of c leaves
@@ -91,7 +91,7 @@ module _ (S : ℕ) (m : Model) (sound : Sound m) (there : Listed (m .stores) S) 
   unfolding allChecks checks change moved
   clear-follows other same out stays =
       let e = context-same S m t thread-listed out in
-      let apart = not-iff (nested ss S c) .0 (and-iff (not (nested ss S c)) _ .0 (sym (cleared-listed c ss S) ∙ stays) .0) in
+      let apart = after-clear c ss .names S .0 stays .1 in
       record {
         passes = rw e (simp (and-iff, not-iff, not-false-iff) (threads-same S m t ∙ thread-listed, (still-idle apart, refl)));
         value = refl;
@@ -139,8 +139,8 @@ unfolding allChecks checks change
 clear-empties S m bs t sound e h =
     let f = simp reflect at (accepted-exact m bs (clear t) .0 h) in
     let there : Listed (m .stores) S = subst (Listed (m .stores)) e (context-listed m sound t (f .1 .0)) in
-    let left = stays-listed S (m .stores) S (not-in-itself m sound S there) ∙ there in
-    let k = used-set S 0 (notIn S (m .stores)) in
+    let out = not-in-itself m sound S there in
+    let g = after-clear S (m .stores) in
     without-empty S (step m bs (clear t) .model) (sound-stays-sound m bs (clear t) sound)
-    (rw (step-accepted m bs (clear t) h, e) left)
-    (rw (step-accepted m bs (clear t) h, e) (k .here (sym (k .names S) ∙ left)))
+    (rw (step-accepted m bs (clear t) h, e) (g .names S .1 (there, out)))
+    (rw (step-accepted m bs (clear t) h, e) (g .here there out))

@@ -1,53 +1,33 @@
--- The stores that a clear leaves: which they are, what is found of them, and that among them nested in means what it meant. Assumes nothing.
-use mathlib.Core.Bool.{true, false, not, _&&_}
+-- The stores that a clear leaves: on any list those that are not nested in the store are listed as before, and among them nested in means what it meant.
+-- Assumes nothing.
+use mathlib.Core.Bool.{true, false}
 use mathlib.Core.List.{List, [], List·Memᴰ·not-nil as nowhere}
 use mathlib.Core.Logic.{inl, inr}
 use mathlib.Core.Path.{_≡_, refl, sym, _∙_, ap}
 use Prim.Native.Nat.{ℕ}
 use native.Mathlib.Omega.{arith}
-use borrow.Author.Tests.{ne-eqb}
-use Rattle.lists.specs.Lists.{keep}
 use Rattle.lists.specs.Tests.{tested, never, false-of, same-test}
 use Rattle.lists.specs.KeyedLaws.{at-none}
-use Rattle.lists.specs.KeyedChanges.{has-map, at-map-same, has-keep, at-keep}
-use Rattle.lists.specs.KeyedKeepLaws.{at-map-field}
-use Rattle.meaning.specs.Model.{Store, Model, storeName, listed, noSuchStore, storeOf, rootOf}
+use Rattle.meaning.specs.Model.{Store, Model, storeName, listed, noSuchStore, rootOf}
 use Rattle.meaning.specs.Nesting.{Child, Nested, child, inChild, nested, parentIn}
 use Rattle.meaning.specs.Facts.{Sound}
-use Rattle.meaning.specs.Changes.{lineWithUsed, cleared, withStores, withThreads}
+use Rattle.meaning.specs.Changes.{cleared, withStores, withThreads}
 use Rattle.meaning.specs.Laws.Nested.{child-link, link-child, nested-agrees}
 use Rattle.laws.specs.ByName.{Listed, root-start}
 use Rattle.laws.specs.Frames.{sound-with-threads}
-use Rattle.laws.specs.Nesting.{nested-transitive, never-in-itself}
+use Rattle.laws.specs.Nesting.{nested-transitive, never-in-itself, not-nested}
+use Rattle.laws.specs.StoreChanges.{after-clear}
 use Rattle.laws.specs.StoreCalls.{clear-sound}
 
 -- ---- of any list
 
--- the stores that are not nested in c, as they are
-abbrev pub notIn : ℕ → List Store → List Store
-notIn c ss = keep (λ s. not (nested ss (s .start) c)) ss
-
 module _ (c : ℕ) (ss : List Store) where
-  pub cleared-listed : (x : ℕ) → listed (cleared c ss) x ≡ (not (nested ss x c) && listed ss x)
-  cleared-listed x = has-map storeName (lineWithUsed c 0) (λ s. refl) (notIn c ss) x ∙ has-keep storeName (λ k. not (nested ss k c)) ss x
-
   -- a store that is not nested in c is listed as before
   pub stays-listed : (x : ℕ) → nested ss x c ≡ false → listed (cleared c ss) x ≡ listed ss x
-  stays-listed x out = cleared-listed x ∙ rw out
-
-  -- and is what it was, if it is not c
-  pub stays-same : (x : ℕ) → nested ss x c ≡ false → (x ≡ c → ⊥) → storeOf (cleared c ss) x ≡ storeOf ss x
-  stays-same x out d =
-      at-map-same storeName (lineWithUsed c 0) (λ s. refl) noSuchStore (notIn c ss) x (λ s e. rw (ne-eqb (s .start) c (λ q. d (sym e ∙ q))))
-      ∙ at-keep storeName (λ k. not (nested ss k c)) noSuchStore ss x (rw out)
-
-  stays-hung : (x : ℕ) → nested ss x c ≡ false → parentIn (cleared c ss) x ≡ parentIn ss x
-  stays-hung x out =
-      at-map-field storeName (lineWithUsed c 0) (λ s. refl) (λ s. s .parent) (λ s. refl) noSuchStore (notIn c ss) x
-      ∙ ap (λ s. s .parent) (at-keep storeName (λ k. not (nested ss k c)) noSuchStore ss x (rw out))
+  stays-listed x out = let g = after-clear c ss .names x in same-test _ _ (λ h. g .0 h .0) (λ h. g .1 (h, out))
 
   gone-hung : (x : ℕ) → nested ss x c ≡ true → parentIn (cleared c ss) x ≡ x
-  gone-hung x gone = ap (λ s. s .parent) (at-none storeName noSuchStore (cleared c ss) x (cleared-listed x ∙ rw gone))
+  gone-hung x gone = ap (λ s. s .parent) (at-none storeName noSuchStore (cleared c ss) x (false-of _ (λ h. never _ gone (after-clear c ss .names x .0 h .1))))
 
 -- ---- of a sound model
 
@@ -67,7 +47,7 @@ module _ (m : Model) (sound : Sound m) (c : ℕ) (there : Listed (m .stores) c) 
       let k = child-link left left-sound h in
       elim (tested (nested ss x c)) [
         | inl e ↦ let g = gone-hung c ss x e in absurd (omega arith)
-        | inr e ↦ link-child m sound (sym (stays-hung c ss x e) ∙ k .0) (k .1)
+        | inr e ↦ link-child m sound (sym (after-clear c ss .parents x e) ∙ k .0) (k .1)
       ]
 
   nested-back : {x s : ℕ} → Nested (cleared c ss) x s → Nested ss x s
@@ -75,13 +55,13 @@ module _ (m : Model) (sound : Sound m) (c : ℕ) (there : Listed (m .stores) c) 
   nested-back (inChild h n) = inChild (child-back h) (nested-back n)
 
   child-on : {x s : ℕ} → Child ss x s → nested ss x c ≡ false → Child (cleared c ss) x s
-  child-on {x} h out = let k = child-link m sound h in link-child left left-sound (stays-hung c ss x out ∙ k .0) (k .1)
+  child-on {x} h out = let k = child-link m sound h in link-child left left-sound (after-clear c ss .parents x out ∙ k .0) (k .1)
 
   nested-on : {x s : ℕ} → Nested ss x s → nested ss x c ≡ false → Nested (cleared c ss) x s
   nested-on (child h) out = child (child-on h out)
   nested-on {x} (inChild {y = y} h n) out =
       inChild
-      (child-on h (false-of _ (λ e. never _ (nested-agrees m sound x c .1 (nested-transitive ss n (nested-agrees m sound y c .0 e))) out)))
+      (child-on h (not-nested m sound (λ o. never _ (nested-agrees m sound x c .1 (nested-transitive ss n o)) out)))
       (nested-on n out)
 
   -- of a store that is left, nested in means what it meant
@@ -92,7 +72,7 @@ module _ (m : Model) (sound : Sound m) (c : ℕ) (there : Listed (m .stores) c) 
 
   -- no store is nested in itself
   pub not-in-itself : nested ss c c ≡ false
-  not-in-itself = false-of _ (λ e. never-in-itself m sound (nested-agrees m sound c c .0 e))
+  not-in-itself = not-nested m sound (never-in-itself m sound)
 
   pub root-left : rootOf (cleared c ss) ≡ rootOf ss
   root-left = root-start left left-sound ∙ sym (root-start m sound)

@@ -10,8 +10,8 @@ use Rattle.lists.specs.KeyedChanges.{has-map}
 use Rattle.meaning.specs.Model.{Model, threadName, storeOf, contextIn}
 use Rattle.meaning.specs.Nesting.{nested}
 use Rattle.meaning.specs.Reports.{contextStore}
+use Rattle.laws.specs.StoreChanges.{after-clear}
 use Rattle.stretches.specs.Stretch.{within}
-use Rattle.stretches.specs.Cleared.{stays-same}
 use Rattle.stretches.specs.Without.{moveLine, without, instead-out, moved-context}
 
 -- a store is neither S nor nested in S
@@ -30,4 +30,4 @@ module _ (S : ℕ) (m : Model) (t : ℕ) (there : has threadName (m .threads) t 
   pub context-store-same : contextStore (without S m) t ≡ contextStore m t
   context-store-same =
       let o = out-of S m (contextIn (m .threads) t) out in
-      ap (λ c. storeOf (without S m .stores) c) context-same ∙ stays-same S (m .stores) (contextIn (m .threads) t) (o .1) (o .0)
+      ap (λ c. storeOf (without S m .stores) c) context-same ∙ after-clear S (m .stores) .elsewhere (contextIn (m .threads) t) (o .1) (o .0)

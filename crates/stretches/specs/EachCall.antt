@@ -5,18 +5,18 @@ use Prim.Native.Nat.{ℕ}
 use native.Mathlib.Decide.{ℕ-discrete}
 use native.Mathlib.Omega.{arith}
 use borrow.Author.Tests.{eqb-false, eq-eqb, ne-eqb}
-use Rattle.lists.specs.Tests.{never, and-iff, not-iff}
+use Rattle.lists.specs.Tests.{never}
 use Rattle.meaning.specs.Model.{Model, Bytes, whole, storeOf, contextIn}
-use Rattle.meaning.specs.Nesting.{nested}
 use Rattle.meaning.specs.Facts.{Sound}
 use Rattle.meaning.specs.Calls.{Call, start, root, contextOf, setContext, totalOf, usedOf, freeOf, find, allocate, makeStore, clear, resize, makeStack, destroyStack, addThread, removeThread, code, change, step}
+use Rattle.meaning.specs.Laws.Nested.{named}
 use Rattle.meaning.specs.Laws.Step.{step-accepted, step-refused}
-use Rattle.laws.specs.ByName.{Listed, named}
-use Rattle.laws.specs.Fits.{areas-stay}
+use Rattle.laws.specs.ByName.{Listed}
+use Rattle.laws.specs.Fixed.{areas-stay}
 use Rattle.laws.specs.Stays.{untouched-stays}
 use Rattle.laws.specs.Touched.{touched}
+use Rattle.laws.specs.StoreChanges.{after-clear}
 use Rattle.stretches.specs.Stretch.{question, isAccepted, workInside, stays, startsOrResizes}
-use Rattle.stretches.specs.Cleared.{cleared-listed}
 use Rattle.stretches.specs.Bytes.{same-bytes}
 use Rattle.stretches.specs.Follows.{Same, Follows, Unseen}
 use Rattle.stretches.specs.Allocate.{allocate-follows, allocate-unseen}
@@ -103,9 +103,7 @@ module _ (S : ℕ) (m : Model) (sound : Sound m) (there : Listed (m .stores) S) 
   spared (allocate t n) no-start stays = record { noStart = omega arith; gone = refl; total = refl }
   spared (makeStore t n) no-start stays = record { noStart = omega arith; gone = refl; total = refl }
   spared (clear t) no-start stays =
-      let c = contextIn (m .threads) t in
-      let k = nested (m .stores) S c in
-      record { noStart = omega arith; gone = not-iff k .0 (and-iff (not k) _ .0 (sym (cleared-listed c (m .stores) S) ∙ stays) .0); total = refl }
+      record { noStart = omega arith; gone = after-clear (contextIn (m .threads) t) (m .stores) .names S .0 stays .1; total = refl }
   spared (resize s n) no-start stays = record { noStart = omega arith; gone = refl; total = ne-eqb S s (λ e. eqb-false s S no-start (sym e)) }
   spared (makeStack n) no-start stays = record { noStart = omega arith; gone = refl; total = refl }
   spared (destroyStack k) no-start stays = record { noStart = omega arith; gone = refl; total = refl }

@@ -22,8 +22,8 @@ use Rattle.meaning.specs.Changes.{lineWithUsed, cleared, withStores}
 use Rattle.meaning.specs.Laws.Nested.{child-link, link-child, nested-agrees}
 use Rattle.laws.specs.ByName.{Listed}
 use Rattle.laws.specs.Nesting.{nested-transitive, inner-listed, outer-listed}
+use Rattle.laws.specs.StoreChanges.{notIn}
 use Rattle.stretches.specs.Stretch.{within}
-use Rattle.stretches.specs.Cleared.{notIn}
 use Rattle.stretches.specs.Without.{without, remade, moved-alike}
 
 module _ (m : Model) (sound : Sound m) (new : Store) (fresh : listed (m .stores) (new .start) ≡ false) (lower : new .parent < new .start)

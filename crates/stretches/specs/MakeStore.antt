@@ -13,8 +13,9 @@ use Rattle.meaning.specs.Reports.{contextStore}
 use Rattle.meaning.specs.Facts.{Sound}
 use Rattle.meaning.specs.Changes.{lineWithUsed, withUsed, withStores}
 use Rattle.meaning.specs.Calls.{makeStore, checks, change, allChecks, step}
+use Rattle.meaning.specs.Laws.Nested.{named}
 use Rattle.meaning.specs.Laws.Step.{accepted-exact}
-use Rattle.laws.specs.ByName.{Listed, named}
+use Rattle.laws.specs.ByName.{Listed}
 use Rattle.laws.specs.Geometry.{none-at-free}
 use Rattle.laws.specs.StoreChanges.{used-set}
 use Rattle.laws.specs.StoreCalls.{allocate-sound, make-store-sound}

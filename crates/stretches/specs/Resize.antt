@@ -9,7 +9,8 @@ use lib.Dec.{eqb}
 use borrow.Author.Tests.{eqb-true, eq-eqb, ne-eqb}
 use Rattle.lists.specs.Lists.{any, rest}
 use Rattle.lists.specs.Tests.{tested, never, same-test, unless-iff, reflect}
-use Rattle.lists.specs.KeepLaws.{any-map, any-rest-keep, rest-map}
+use Rattle.lists.specs.KeepLaws.{rest-map}
+use Rattle.lists.specs.ListChanges.{any-map, any-rest-keep}
 use Rattle.names.specs.Overhead.{storeTaken}
 use Rattle.meaning.specs.Model.{Store, Model, Bytes, storeOf}
 use Rattle.meaning.specs.Nesting.{Nested, child, inChild, nested, parentIn}
@@ -17,12 +18,13 @@ use Rattle.meaning.specs.Reports.{parentStore, notOnlyChild}
 use Rattle.meaning.specs.Facts.{Sound}
 use Rattle.meaning.specs.Changes.{lineWithUsed, lineWithTotal, cleared, withStores}
 use Rattle.meaning.specs.Calls.{resize, checks, change, allChecks, step}
-use Rattle.meaning.specs.Laws.Nested.{child-link, link-child, nested-agrees}
+use Rattle.meaning.specs.Laws.Nested.{named, child-link, link-child, nested-agrees}
 use Rattle.meaning.specs.Laws.Step.{accepted-exact}
-use Rattle.laws.specs.ByName.{Listed, totalIn, named, by-name, root-start}
+use Rattle.laws.specs.ByName.{Listed, totalIn, by-name, root-start}
 use Rattle.laws.specs.Nesting.{nested-transitive}
+use Rattle.laws.specs.StoreChanges.{notIn, after-clear}
 use Rattle.stretches.specs.Stretch.{within, moved}
-use Rattle.stretches.specs.Cleared.{notIn, stays-listed, stays-same, root-left}
+use Rattle.stretches.specs.Cleared.{stays-listed, root-left}
 use Rattle.stretches.specs.Without.{without}
 use Rattle.stretches.specs.Bytes.{same-bytes}
 use Rattle.stretches.specs.Follows.{Same, Follows, Unseen}
@@ -83,14 +85,14 @@ module _ (S : ℕ) (m : Model) (sound : Sound m) (there : Listed (m .stores) S) 
   -- and is what it was
   parent-same : (s ≡ S → ⊥) → nested (m .stores) s S ≡ false → parentStore (without S m) s ≡ parentStore m s
   parent-same d out =
-      ap (λ x. storeOf (cleared S (m .stores)) (x .parent)) (stays-same S (m .stores) s out d)
-      ∙ stays-same S (m .stores) p (parent-out out .1) (parent-out out .0)
+      ap (λ x. storeOf (cleared S (m .stores)) (x .parent)) (after-clear S (m .stores) .elsewhere s out d)
+      ∙ after-clear S (m .stores) .elsewhere p (parent-out out .1) (parent-out out .0)
 
   pub resize-follows : (other : Bytes) → Same S m bs other → (s ≡ S → ⊥) → nested (m .stores) s S ≡ false → Follows S m bs other (resize s n)
   unfolding allChecks checks change moved
   resize-follows other same d out =
       let f = simp reflect at (accepted-exact m bs (resize s n) .0 h) in
-      let e = stays-same S (m .stores) s out d in
+      let e = after-clear S (m .stores) .elsewhere s out d in
       let g = parent-same d out in
       let k = named (m .stores) p in
       let u = parentStore m s .used + storeTaken n - totalIn (m .stores) s in

@@ -12,10 +12,9 @@ use Rattle.lists.specs.Lists.{_∈_}
 use Rattle.lists.specs.Keyed.{has}
 use Rattle.lists.specs.Tests.{tested, never, false-of}
 use Rattle.lists.specs.ListLaws.{any-member}
-use Rattle.lists.specs.ListChanges.{keep-all}
 use Rattle.lists.specs.KeyedLaws.{has-iff, member-at}
 use Rattle.lists.specs.KeyedChanges.{at-map, rising-map}
-use Rattle.lists.specs.KeepLaws.{map-agree, map-none}
+use Rattle.lists.specs.KeepLaws.{map-agree, map-none, keep-all}
 use Rattle.meaning.specs.Model.{Store, Thread, Model, storeName, threadName, noSuchStore, noSuchThread, contextIn}
 use Rattle.meaning.specs.Nesting.{nested}
 use Rattle.meaning.specs.Reports.{inUse}

@@ -3,7 +3,7 @@ use borrow.Author.Needs.{needs}
 use mathlib.Core.Path.{_≡_}
 use lib.ListN.{length}
 use borrow.Author.Tests.{not-true, not-false}
-use Rattle.lines.specs.Lookup.{unmapped}
+use Rattle.lines.specs.Shape.{unmapped}
 use Rattle.finding.specs.Steps.{lines-fit, find-none, find-outside, find-inside}
 use Rattle.finding.proofs.find.Statement.{statement}
 use Rattle.finding.proofs.find.Tie as tie

@@ -9,14 +9,14 @@ use borrow.Author.Tests.{ltb-true, ltb-false}
 use Rattle.lists.specs.Lists.{_∈_, keep}
 use Rattle.lists.specs.Tests.{tested, reflect}
 use Rattle.lists.specs.ListLaws.{keep-member, member-keep}
-use Rattle.lists.specs.KeyedLaws.{member-has, at-member, at-key}
+use Rattle.lists.specs.KeyedLaws.{member-has, at-member}
 use Rattle.meaning.specs.Model.{Store, Model, Bytes, _holds_, whole, storeName, noSuchStore, storeOf, rootOf}
 use Rattle.meaning.specs.Nesting.{Below, depth, deeper, deepest, storeHolding}
 use Rattle.meaning.specs.Facts.{_Holds_, Sound}
 use Rattle.meaning.specs.Calls.{find, checks, change, allChecks, step}
 use Rattle.meaning.specs.Laws.Agree.{holds-iff}
 use Rattle.meaning.specs.Laws.Step.{accepted-exact, accepted-sound, step-accepted}
-use Rattle.meaning.specs.Laws.Nested.{root-listed, depth-agrees}
+use Rattle.meaning.specs.Laws.Nested.{named, root-listed, depth-agrees}
 
 module _ (ss : List Store) where
   deeper-most : (x y : ℕ) → (depth ss x ≤ depth ss (deeper ss x y)) × (depth ss y ≤ depth ss (deeper ss x y))
@@ -76,7 +76,7 @@ module _ (m : Model) (bs : Bytes) (a : ℕ) (ok : step m bs (find a) .report ≡
   holder = ⊎-elim
       (λ e.
       let r = rootOf ss in
-      (storeOf ss r, at-member storeName noSuchStore ss r (root-listed m is-sound), at-key storeName noSuchStore (λ k. refl) ss r ∙ sym e, root-covers m bs a ok))
+      (storeOf ss r, at-member storeName noSuchStore ss r (root-listed m is-sound), named ss r ∙ sym e, root-covers m bs a ok))
       (λ r. let k = keep-member (λ s. whole s holds a) ss (r .1) in (r .0, k .0, r .2, holds-iff (whole (r .0)) a .0 (k .1)))
       (deepest-one ss (rootOf ss) (keep (λ s. whole s holds a) ss))
 

@@ -66,12 +66,13 @@ module _ (par : ℕ → ℕ) where
 
 -- ---- the links of a sound model
 
+-- what is looked up by a name has it
+pub named : (ss : List Store) (k : ℕ) → storeOf ss k .start ≡ k
+named ss k = at-key storeName noSuchStore (λ x. refl) ss k
+
 module _ (m : Model) (sound : Sound m) where
   abbrev ss : List Store
   ss = m .stores
-
-  named : (x : ℕ) → storeOf ss x .start ≡ x
-  named x = at-key storeName noSuchStore (λ k. refl) ss x
 
   in-rest : {c : Store} → c ∈ rest ss → c ∈ ss
   in-rest i = rw (sound .rule2 .first) (there i)
@@ -84,7 +85,7 @@ module _ (m : Model) (sound : Sound m) where
   root-or-other {x} h =
       let i : storeOf ss x ∈ ss = at-member storeName noSuchStore ss x h in
       ⊎-elim
-      (λ e. inl (sym (named x) ∙ ap (λ s. s .start) e ∙ ap rootOf (sym (sound .rule2 .first)), ap (λ s. s .parent) e ∙ sound .rule2 .itself ∙ sym (ap (λ s. s .start) e) ∙ named x))
+      (λ e. inl (sym (named ss x) ∙ ap (λ s. s .start) e ∙ ap rootOf (sym (sound .rule2 .first)), ap (λ s. s .parent) e ∙ sound .rule2 .itself ∙ sym (ap (λ s. s .start) e) ∙ named ss x))
       (λ r. inr r)
       (in-stores i)
 
@@ -99,7 +100,7 @@ module _ (m : Model) (sound : Sound m) where
   -- a falling link is a child
   pub link-child : {x s : ℕ} → parentIn ss x ≡ s → s < x → Child ss x s
   link-child {x} {s} e l = elim (tested (listed ss x)) [
-    | inl h ↦ ⊎-elim (λ r. absurd (omega (arith, r .1))) (λ i. (storeOf ss x, i, named x, e)) (root-or-other h)
+    | inl h ↦ ⊎-elim (λ r. absurd (omega (arith, r .1))) (λ i. (storeOf ss x, i, named ss x, e)) (root-or-other h)
     | inr h ↦ let n = ap (λ s. s .parent) (at-none storeName noSuchStore ss x h) in absurd (omega (arith, n))
   ]
 
@@ -143,12 +144,12 @@ module _ (m : Model) (sound : Sound m) where
 
   below-depth : (n x : ℕ) → x ≤ n → listed ss x ≡ true → Below ss x (links (parentIn ss) x x)
   below-depth zero x k h =
-      ⊎-elim (λ r. below-top r) (λ i. let l = sound .rule3 .others (storeOf ss x) i .lower in absurd (omega (arith, named x))) (root-or-other h)
+      ⊎-elim (λ r. below-top r) (λ i. let l = sound .rule3 .others (storeOf ss x) i .lower in absurd (omega (arith, named ss x))) (root-or-other h)
   below-depth (suc n) x k h = ⊎-elim (λ r. below-top r)
       (λ i.
       let hangs = sound .rule3 .others (storeOf ss x) i in
-      let l : parentIn ss x < x = omega (arith, hangs .lower, named x) in
-      under (storeOf ss x, i, named x, refl) (below-depth n (parentIn ss x) (omega arith) (has-iff storeName ss (parentIn ss x) .1 (hangs .listed))) (links-up (parentIn ss) x l))
+      let l : parentIn ss x < x = omega (arith, hangs .lower, named ss x) in
+      under (storeOf ss x, i, named ss x, refl) (below-depth n (parentIn ss x) (omega arith) (has-iff storeName ss (parentIn ss x) .1 (hangs .listed))) (links-up (parentIn ss) x l))
       (root-or-other h)
 
   below-counts : {x n : ℕ} → Below ss x n → (listed ss x ≡ true) × (links (parentIn ss) x x ≡ n)

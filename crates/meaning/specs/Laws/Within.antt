@@ -7,19 +7,16 @@ use Prim.Native.Nat.{ℕ, zero, suc, _+_, _≤_}
 use native.Mathlib.Omega.{arith}
 use Rattle.lists.specs.Lists.{_∈_, rest}
 use Rattle.lists.specs.Keyed.{has}
-use Rattle.lists.specs.KeyedLaws.{has-iff, at-member, at-key, member-at}
+use Rattle.lists.specs.KeyedLaws.{has-iff, at-member, member-at}
 use Rattle.names.specs.Overhead.{storeOverhead}
 use Rattle.meaning.specs.Model.{Store, Model, whole, storeName, threadName, listed, noSuchStore, noSuchThread, storeOf, contextIn, rootOf}
 use Rattle.meaning.specs.Nesting.{parentIn}
 use Rattle.meaning.specs.Facts.{_Inside_, Sound}
-use Rattle.meaning.specs.Laws.Nested.{root-or-other}
+use Rattle.meaning.specs.Laws.Nested.{named, root-or-other}
 
 module _ (m : Model) (sound : Sound m) where
   abbrev ss : List Store
   ss = m .stores
-
-  named : (x : ℕ) → storeOf ss x .start ≡ x
-  named x = at-key storeName noSuchStore (λ k. refl) ss x
 
   -- the root is the area; another store lies in its parent, which lies in the area
   root-within : {x : ℕ} → x ≡ rootOf ss → whole (storeOf ss x) Inside m .storeArea
@@ -34,17 +31,17 @@ module _ (m : Model) (sound : Sound m) where
   in-parent x i up =
       let p = storeOf ss (parentIn ss x) in
       let there : p ∈ ss = at-member storeName noSuchStore ss (parentIn ss x) (has-iff storeName ss (parentIn ss x) .1 (sound .rule3 .others (storeOf ss x) i .listed)) in
-      let lies = sound .rule4 .inside p (storeOf ss x) there i (sym (named (parentIn ss x))) in
+      let lies = sound .rule4 .inside p (storeOf ss x) there i (sym (named ss (parentIn ss x))) in
       let f = sound .rule4 .fits p there in
       omega arith
 
   within : (n x : ℕ) → x ≤ n → listed ss x ≡ true → whole (storeOf ss x) Inside m .storeArea
   within zero x k h =
-      ⊎-elim (λ r. root-within (r .0)) (λ i. let l = sound .rule3 .others (storeOf ss x) i .lower in absurd (omega (arith, named x))) (root-or-other m sound h)
+      ⊎-elim (λ r. root-within (r .0)) (λ i. let l = sound .rule3 .others (storeOf ss x) i .lower in absurd (omega (arith, named ss x))) (root-or-other m sound h)
   within (suc n) x k h = ⊎-elim (λ r. root-within (r .0))
       (λ i.
       let hangs = sound .rule3 .others (storeOf ss x) i in
-      in-parent x i (within n (parentIn ss x) (omega (arith, hangs .lower, named x)) (has-iff storeName ss (parentIn ss x) .1 (hangs .listed))))
+      in-parent x i (within n (parentIn ss x) (omega (arith, hangs .lower, named ss x)) (has-iff storeName ss (parentIn ss x) .1 (hangs .listed))))
       (root-or-other m sound h)
 
   -- a listed store's total lies in the store area

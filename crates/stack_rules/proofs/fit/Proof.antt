@@ -4,7 +4,8 @@ use mathlib.Core.Path.{_≡_, _∙_, ap}
 use Prim.Native.Nat.{min}
 use native.Mathlib.Omega.{arith}
 use lib.ListN.{length}
-use Rattle.lines.specs.Lookup.{unmapped, count-read, lines-read}
+use Rattle.lines.specs.Shape.{unmapped}
+use Rattle.lines.specs.Lookup.{count-read, lines-read}
 use Rattle.meaning.specs.Reading.{runOf}
 use Rattle.stacks.specs.Stacks.{stackLine, reading}
 use Rattle.stack_rules.specs.Pass.{inOrder, inOrder-rule}

@@ -7,7 +7,8 @@ use native.Mathlib.Omega.{arith}
 use borrow.Author.Tests.{eq-eqb, ne-eqb, not-true, not-false}
 use lib.ListN.{length}
 use Rattle.lists.specs.Lists.{sum}
-use Rattle.lines.specs.Lookup.{unmapped, count-read, lines-read}
+use Rattle.lines.specs.Shape.{unmapped}
+use Rattle.lines.specs.Lookup.{count-read, lines-read}
 use Rattle.meaning.specs.Model.{_inside_}
 use Rattle.meaning.specs.Rules.{runSound}
 use Rattle.meaning.specs.Reading.{runOf}

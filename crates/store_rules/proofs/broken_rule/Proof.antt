@@ -9,8 +9,8 @@ use native.Mathlib.Omega.{arith}
 use lib.ListN.{length}
 use Rattle.lists.specs.Lists.{all}
 use Rattle.lists.specs.Keyed.{rising}
-use Rattle.lines.specs.Shape.{live}
-use Rattle.lines.specs.Lookup.{unmapped, count-read, lines-read}
+use Rattle.lines.specs.Shape.{unmapped, live}
+use Rattle.lines.specs.Lookup.{count-read, lines-read}
 use Rattle.meaning.specs.Model.{Store, storeName}
 use Rattle.meaning.specs.Rules.{rootSound, storesHang, fits}
 use Rattle.meaning.specs.Reading.{runOf}

@@ -6,7 +6,7 @@ use borrow.Author.Tests.{not-true, not-false}
 use lib.ListN.{length}
 use Rattle.lists.specs.Lists.{all}
 use Rattle.lines.specs.Shape.{live}
-use Rattle.lines.specs.Others.{AllFrom, all-from-more, all-from-stop, all-from-end}
+use Rattle.lines.specs.Tested.{AllFrom, all-from-more, all-from-stop, all-from-end}
 use Rattle.meaning.specs.Rules.{fits}
 use Rattle.stores.specs.Stores.{storeLine}
 use Rattle.store_rules.proofs.lines_fit.Statement.{statement}

@@ -8,7 +8,7 @@ use lib.ListN.{length}
 use Rattle.lists.specs.Lists.{all, rest}
 use Rattle.lists.specs.Keyed.{rising}
 use Rattle.lines.specs.Shape.{live}
-use Rattle.lines.specs.Others.{AllFrom, all-from-second, all-from-more, all-from-stop, all-from-end}
+use Rattle.lines.specs.Tested.{AllFrom, all-from-second, all-from-more, all-from-stop, all-from-end}
 use Rattle.meaning.specs.Model.{storeName}
 use Rattle.meaning.specs.Rules.{hangs}
 use Rattle.stores.specs.Stores.{storeLine}

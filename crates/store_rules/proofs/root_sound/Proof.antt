@@ -1,7 +1,7 @@
 -- `store_rules::root_sound` meets its contract. Assumes nothing.
 use borrow.Author.Needs.{needs}
 use borrow.Author.Tests.{eq-eqb, ne-eqb}
-use Rattle.lines.specs.Others.{first-none, first-line}
+use Rattle.lines.specs.Shape.{first-line, first-none}
 use Rattle.meaning.specs.Rules.{rootSound}
 use Rattle.stores.specs.Stores.{storeLine}
 use Rattle.store_rules.proofs.root_sound.Statement.{statement}

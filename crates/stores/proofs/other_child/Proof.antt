@@ -5,7 +5,7 @@ use mathlib.Core.Path.{_≡_}
 use lib.ListN.{length}
 use Rattle.lists.specs.Lists.{any, rest}
 use Rattle.lines.specs.Shape.{live}
-use Rattle.lines.specs.Others.{AnyFrom, any-from-second, any-from-more, any-from-stop, any-from-end}
+use Rattle.lines.specs.Tested.{AnyFrom, any-from-second, any-from-more, any-from-stop, any-from-end}
 use Rattle.stores.specs.Stores.{storeLine, isOtherChild}
 use Rattle.stores.proofs.other_child.Statement.{statement}
 use Rattle.stores.proofs.other_child.Tie as tie

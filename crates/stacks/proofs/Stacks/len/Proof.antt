@@ -2,7 +2,8 @@
 use borrow.Author.Needs.{needs}
 use mathlib.Core.Path.{_≡_}
 use lib.ListN.{length}
-use Rattle.lines.specs.Lookup.{unmapped, lines-count}
+use Rattle.lines.specs.Shape.{unmapped}
+use Rattle.lines.specs.Lookup.{lines-count}
 use Rattle.stacks.specs.Stacks.{stackLine, reading}
 use Rattle.stacks.proofs.Stacks.len.Statement.{statement}
 use Rattle.stacks.proofs.Stacks.len.Tie as tie

@@ -2,7 +2,8 @@
 use borrow.Author.Needs.{needs}
 use mathlib.Core.Path.{_≡_, _∙_, ap}
 use lib.ListN.{length}
-use Rattle.lines.specs.Lookup.{unmapped, at-found, at-missing}
+use Rattle.lines.specs.Shape.{unmapped}
+use Rattle.lines.specs.Lookup.{at-found, at-missing}
 use Rattle.meaning.specs.Model.{stackName, noSuchStack}
 use Rattle.stacks.specs.Stacks.{back, stackLine, reading}
 use Rattle.stacks.proofs.Stacks.line.Statement.{statement}

@@ -3,8 +3,8 @@ use borrow.Author.Needs.{needs}
 use mathlib.Core.List.{map}
 use mathlib.Core.Path.{_≡_, sym, _∙_, ap}
 use lib.ListN.{length, length-map}
-use Rattle.lines.specs.Shape.{pad}
-use Rattle.lines.specs.Lookup.{unmapped, lines-read, lines-count}
+use Rattle.lines.specs.Shape.{unmapped, pad}
+use Rattle.lines.specs.Lookup.{lines-read, lines-count}
 use Rattle.stores.specs.Stores.{storeLine, reading, lineWith, made}
 use Rattle.stores.proofs.Stores.changed.Statement.{statement}
 use Rattle.stores.proofs.Stores.changed.Tie as tie

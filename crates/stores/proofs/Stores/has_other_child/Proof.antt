@@ -3,7 +3,8 @@ use borrow.Author.Needs.{needs}
 use mathlib.Core.Path.{_≡_, _∙_, ap}
 use lib.ListN.{length}
 use Rattle.lists.specs.Lists.{any, rest}
-use Rattle.lines.specs.Lookup.{unmapped, lines-read}
+use Rattle.lines.specs.Shape.{unmapped}
+use Rattle.lines.specs.Lookup.{lines-read}
 use Rattle.stores.specs.Stores.{storeLine, reading, isOtherChild}
 use Rattle.stores.proofs.Stores.has_other_child.Statement.{statement}
 use Rattle.stores.proofs.Stores.has_other_child.Tie as tie

@@ -2,7 +2,8 @@
 use borrow.Author.Needs.{needs}
 use mathlib.Core.Path.{_≡_}
 use lib.ListN.{length}
-use Rattle.lines.specs.Lookup.{unmapped, lines-count}
+use Rattle.lines.specs.Shape.{unmapped}
+use Rattle.lines.specs.Lookup.{lines-count}
 use Rattle.stores.specs.Stores.{storeLine, reading}
 use Rattle.stores.proofs.Stores.len.Statement.{statement}
 use Rattle.stores.proofs.Stores.len.Tie as tie

@@ -2,7 +2,8 @@
 use borrow.Author.Needs.{needs}
 use mathlib.Core.Path.{_≡_, _∙_, ap}
 use lib.ListN.{length}
-use Rattle.lines.specs.Lookup.{unmapped, at-found, at-missing}
+use Rattle.lines.specs.Shape.{unmapped}
+use Rattle.lines.specs.Lookup.{at-found, at-missing}
 use Rattle.meaning.specs.Model.{storeName, noSuchStore}
 use Rattle.stores.specs.Stores.{back, storeLine, reading}
 use Rattle.stores.proofs.Stores.line.Statement.{statement}

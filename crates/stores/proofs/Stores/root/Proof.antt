@@ -2,8 +2,8 @@
 use borrow.Author.Needs.{needs}
 use mathlib.Core.Path.{_≡_, sym, _∙_, ap}
 use lib.ListN.{length}
-use Rattle.lines.specs.Lookup.{unmapped, lines-read}
-use Rattle.lines.specs.Others.{first-none, first-line}
+use Rattle.lines.specs.Shape.{unmapped, first-line, first-none}
+use Rattle.lines.specs.Lookup.{lines-read}
 use Rattle.meaning.specs.Model.{rootOf}
 use Rattle.stores.specs.Stores.{storeLine, reading}
 use Rattle.stores.proofs.Stores.root.Statement.{statement}

@@ -4,8 +4,8 @@ use mathlib.Core.Path.{_≡_, _∙_, ap}
 use native.Mathlib.Omega.{arith}
 use borrow.Author.Tests.{lt-ltb, le-ltb}
 use lib.ListN.{length}
-use Rattle.lines.specs.Shape.{pad}
-use Rattle.lines.specs.Lookup.{unmapped, lines-count, place-fits, insert-found, insert-count}
+use Rattle.lines.specs.Shape.{unmapped, pad}
+use Rattle.lines.specs.Lookup.{lines-count, place-fits, insert-found, insert-count}
 use Rattle.meaning.specs.Model.{storeName}
 use Rattle.stores.specs.Stores.{storeLine, reading, made}
 use Rattle.stores.proofs.Stores.with_store.Statement.{statement}

@@ -5,9 +5,9 @@ use mathlib.Core.Path.{_≡_, refl, sym, _∙_}
 use mathlib.Core.Logic.{⊎-elim}
 use borrow.Author.Tests.{not-true, not-false}
 use lib.ListN.{length}
-use Rattle.lines.specs.Shape.{live}
+use Rattle.lines.specs.Shape.{unmapped, live}
 use Rattle.lines.specs.Kept.{Kept, kept-start, kept-in, kept-out, kept-end}
-use Rattle.lines.specs.Lookup.{unmapped, lines-read}
+use Rattle.lines.specs.Lookup.{lines-read}
 use Rattle.stores.specs.Stores.{storeLine, reading, written, isOutside}
 use Rattle.stores.proofs.Stores.without_nested.Statement.{statement}
 use Rattle.stores.proofs.Stores.without_nested.Tie as tie

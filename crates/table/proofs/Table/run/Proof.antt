@@ -3,7 +3,7 @@ use mathlib.Core.Bool.{true, false}
 use mathlib.Core.Path.{_≡_, sym, _∙_}
 use native.Mathlib.Omega.{arith}
 use borrow.Author.Tests.{not-true, not-false}
-use Rattle.lines.specs.Lookup.{unmapped}
+use Rattle.lines.specs.Shape.{unmapped}
 use Rattle.table.specs.Table.{soundTable, Sized}
 use denote.Ref.{now}
 use Rattle.table.specs.Calls.{tableRun}

@@ -2,7 +2,7 @@
 use mathlib.Core.Bool.{true, false}
 use mathlib.Core.Path.{_≡_, sym, _∙_}
 use borrow.Author.Tests.{not-true, not-false}
-use Rattle.lines.specs.Lookup.{unmapped}
+use Rattle.lines.specs.Shape.{unmapped}
 use Rattle.table.specs.Table.{soundTable, Sized}
 use Rattle.table.specs.Calls.{runNumber}
 use Rattle.table.specs.Lent.{report-sound}

@@ -2,7 +2,8 @@
 use borrow.Author.Needs.{needs}
 use mathlib.Core.Path.{_≡_, ap}
 use lib.ListN.{length}
-use Rattle.lines.specs.Lookup.{unmapped, at-found, at-missing}
+use Rattle.lines.specs.Shape.{unmapped}
+use Rattle.lines.specs.Lookup.{at-found, at-missing}
 use Rattle.meaning.specs.Model.{Thread, threadName, noSuchThread}
 use Rattle.threads.specs.Threads.{threadLine, reading}
 use Rattle.threads.proofs.Threads.context.Statement.{statement}

@@ -2,7 +2,8 @@
 use borrow.Author.Needs.{needs}
 use mathlib.Core.Path.{_≡_}
 use lib.ListN.{length}
-use Rattle.lines.specs.Lookup.{unmapped, lines-count}
+use Rattle.lines.specs.Shape.{unmapped}
+use Rattle.lines.specs.Lookup.{lines-count}
 use Rattle.threads.specs.Threads.{threadLine, reading}
 use Rattle.threads.proofs.Threads.len.Statement.{statement}
 use Rattle.threads.proofs.Threads.len.Tie as tie

@@ -2,7 +2,8 @@
 use borrow.Author.Needs.{needs}
 use mathlib.Core.Path.{_≡_, _∙_, ap}
 use lib.ListN.{length}
-use Rattle.lines.specs.Lookup.{unmapped, nth-found, nth-missing}
+use Rattle.lines.specs.Shape.{unmapped}
+use Rattle.lines.specs.Lookup.{nth-found, nth-missing}
 use Rattle.threads.specs.Threads.{back, threadLine, reading}
 use Rattle.threads.proofs.Threads.nth.Statement.{statement}
 use Rattle.threads.proofs.Threads.nth.Tie as tie

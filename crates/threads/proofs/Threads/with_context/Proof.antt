@@ -2,8 +2,8 @@
 use borrow.Author.Needs.{needs}
 use mathlib.Core.Path.{_≡_, sym, _∙_, ap}
 use lib.ListN.{length, length-map}
-use Rattle.lines.specs.Shape.{pad}
-use Rattle.lines.specs.Lookup.{unmapped, lines-read, lines-count}
+use Rattle.lines.specs.Shape.{unmapped, pad}
+use Rattle.lines.specs.Lookup.{lines-read, lines-count}
 use Rattle.meaning.specs.Changes.{withContext}
 use Rattle.threads.specs.Threads.{threadLine, reading, made}
 use Rattle.threads.proofs.Threads.with_context.Statement.{statement}

@@ -1,4 +1,4 @@
--- The report's state has two halves: stores with threads, and stacks. A call on one leaves the other, and a refusal leaves both. Assumes nothing.
+-- 000's state has two halves: stores with threads, and stacks. A call on one leaves the other, and a refusal leaves both. Assumes nothing.
 use mathlib.Core.Bool.{Bool, true, false, _||_}
 use mathlib.Core.Path.{_≡_, refl, _∙_, ap}
 use native.Mathlib.Decide.{ℕ-discrete}
@@ -17,7 +17,7 @@ use Rattle.schemas.specs.Steps.{global-stays, stacks-stay}
 abbrev pub onStacks : Call → Bool
 onStacks c = eqb (code c) 12 || eqb (code c) 13
 
--- what a call that is no start and not on the half makes of it
+-- a call other than a start leaves the half that it is not on as it was
 change-halves : (m : Model) (bs : Bytes) (c : Call) → (code c ≡ 0 → ⊥)
     → (onStacks c ≡ false → stacksOf (change m bs c .model) ≡ stacksOf m) × (onStacks c ≡ true → globalOf (change m bs c .model) ≡ globalOf m)
 unfolding change

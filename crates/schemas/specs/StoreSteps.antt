@@ -10,8 +10,8 @@ use Rattle.meaning.specs.Model.{Run, Store, Model, freePart, listed}
 use Rattle.meaning.specs.Nesting.{Child, child, parentIn}
 use Rattle.meaning.specs.Facts.{Sound}
 use Rattle.meaning.specs.Changes.{withStores}
-use Rattle.meaning.specs.Laws.Nested.{child-link, link-child}
-use Rattle.laws.specs.ByName.{Listed, totalIn, usedIn, named, root-start}
+use Rattle.meaning.specs.Laws.Nested.{named, child-link, link-child}
+use Rattle.laws.specs.ByName.{Listed, totalIn, usedIn, root-start}
 use Rattle.laws.specs.Nesting.{inner-listed}
 use Rattle.schemas.specs.Blocks.{ΔMemoryBlock, MBAllocate}
 use Rattle.schemas.specs.Stores.{SameStore}
@@ -70,8 +70,9 @@ module _ (m : Model) (sound : Sound m) (ss′ : List Store) (sound′ : Sound (w
     λ c. let k = child-link m sound c in link-child (withStores m ss′) sound′ (parents x (inner-listed m sound (child c)) ∙ k .0) (k .1),
   )
 
-  pub changes : ΔGlobalMemoryManager (globalOf m) (globalOf (withStores m ss′))
-  changes = record { before = global-invariant m sound; after = global-invariant (withStores m ss′) sound′ }
+  -- Δ GlobalMemoryManager
+  pub stores-change : ΔGlobalMemoryManager (globalOf m) (globalOf (withStores m ss′))
+  stores-change = record { before = global-invariant m sound; after = global-invariant (withStores m ss′) sound′ }
 
   -- GlobalFixedVars
   pub fixed-vars : GlobalFixedVars (globalOf m) (globalOf (withStores m ss′))
