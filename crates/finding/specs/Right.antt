@@ -2,7 +2,7 @@
 -- are that store's depth. Assumes nothing.
 use mathlib.Core.Bool.{true, false}
 use mathlib.Core.List.{List, [], _∷_, List·Memᴰ·head as here, List·Memᴰ·tail as there, List·Memᴰ·not-nil as nowhere, List·Memᴰ·cases-cons as cases-cons}
-use mathlib.Core.Logic.{_⊎_, inl, inr, ⊎-elim}
+use mathlib.Core.Logic.{inl, inr, ⊎-elim}
 use mathlib.Core.Path.{_≡_, refl, sym, _∙_, ap, ap₂, subst}
 use Prim.Native.Nat.{ℕ, _+_, _<_}
 use native.Mathlib.Decide.{ℕ-discrete}
@@ -15,16 +15,16 @@ use Rattle.lists.specs.Keyed.{Rising}
 use Rattle.lists.specs.Tests.{tested, never, and-iff}
 use Rattle.lists.specs.KeyedLaws.{member-has, member-at}
 use Rattle.meaning.specs.Model.{Store, Model, Bytes, _holds_, whole, storeName, noSuchStore, storeOf, rootOf}
-use Rattle.meaning.specs.Nesting.{Child, Nested, child, inChild, parentIn, depth, storeHolding}
+use Rattle.meaning.specs.Nesting.{Nested, parentIn, depth, storeHolding}
 use Rattle.meaning.specs.Facts.{_Holds_, Sound}
 use Rattle.meaning.specs.Reports.{firstReport}
 use Rattle.meaning.specs.Calls.{find, found, checks, change, row, step}
 use Rattle.meaning.specs.Laws.Agree.{holds-iff, sound-agrees}
-use Rattle.meaning.specs.Laws.Nested.{links-top, named, child-link, link-child, root-listed, root-own-parent}
+use Rattle.meaning.specs.Laws.Nested.{links-top, named, link-child, root-listed, root-own-parent}
 use Rattle.meaning.specs.Laws.Step.{sound-row}
 use Rattle.meaning.specs.Laws.Find.{find-right}
 use Rattle.laws.specs.ByName.{Listed, ByName, by-name, root-start, other-line}
-use Rattle.laws.specs.Nesting.{nested-below}
+use Rattle.laws.specs.Nesting.{nested-below, parent-of-nested}
 use Rattle.laws.specs.Geometry.{holders-nested}
 use Rattle.laws.specs.Depth.{child-depth, find-deepest}
 use Rattle.finding.specs.Descent.{told, inside, outside, leads, descend, descent}
@@ -41,12 +41,6 @@ module _ (m : Model) (sound : Sound m) where
 
   abbrev by : ByName (m .storeArea) ss
   by = by-name m sound
-
-  -- what is nested in s is a child of s, or its parent is nested in s
-  parent-nested : {x s : ℕ} → Nested ss x s → (parentIn ss x ≡ s) ⊎ Nested ss (parentIn ss x) s
-  parent-nested (child c) = inl (child-link m sound c .0)
-  parent-nested {x} {s} (inChild c n) =
-      ⊎-elim (λ e. inr (child (subst (λ p. Child ss p s) (sym e) c))) (λ u. inr (inChild c u)) (parent-nested n)
 
   -- The way down has come to s, k steps below the root, and the lines l follow: s holds the address, and every line that holds it from a higher start on is
   -- one of those that follow.
@@ -92,7 +86,7 @@ module _ (m : Model) (sound : Sound m) where
           let top : Nested ss p s → ⊥ = λ u.
           between p (g .parent) (parent-covers (x .start) next-listed (omega arith) holder) (nested-below m sound u) (omega (arith, g .low)) in
           ⊎-elim (λ n. let b = nested-below m sound n in absurd (omega arith))
-          (λ n. sym (ap (λ t. t .parent) next) ∙ ⊎-elim (λ e. e) (λ u. absurd (top u)) (parent-nested n))
+          (λ n. sym (ap (λ t. t .parent) next) ∙ ⊎-elim (λ e. e) (λ u. absurd (top u)) (parent-of-nested m sound n))
           (holders-nested m sound s (x .start) a (c .at) next-listed (omega arith) (c .covers) holder)
 
       -- it leads down

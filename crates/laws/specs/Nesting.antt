@@ -1,6 +1,7 @@
 -- Nested in: transitive, never of itself, always in a store of a lower start; and every store but the root is nested in the root. Assumes nothing.
 use mathlib.Core.Bool.{false}
 use mathlib.Core.List.{List, List·Memᴰ·tail as there}
+use mathlib.Core.Logic.{_⊎_, inl, inr, ⊎-elim}
 use mathlib.Core.Path.{_≡_, refl}
 use Prim.Native.Nat.{ℕ, zero, suc, _<_, _≤_}
 use native.Mathlib.Decide.{ℕ-discrete}
@@ -34,6 +35,11 @@ module _ (m : Model) (sound : Sound m) where
   -- where it is not so, the test is false
   pub not-nested : {x s : ℕ} → (Nested ss x s → ⊥) → nested ss x s ≡ false
   not-nested {x} {s} out = false-of _ (λ e. out (nested-agrees m sound x s .0 e))
+
+  -- what is nested in s is a child of s, or its parent is nested in s
+  pub parent-of-nested : {x s : ℕ} → Nested ss x s → (parentIn ss x ≡ s) ⊎ Nested ss (parentIn ss x) s
+  parent-of-nested (child c) = inl (child-link m sound c .0)
+  parent-of-nested (inChild c n) = inr (⊎-elim (λ e. rw e (child c)) (λ k. inChild c k) (parent-of-nested n))
 
   -- what is nested, and what it is nested in, is listed
   pub inner-listed : {x s : ℕ} → Nested ss x s → Listed ss x

@@ -5,6 +5,6 @@ pub mod Proof1
 pub mod Demand2
 pub mod Proof2
 pub mod Demand3
-pub mod Follow
+pub mod Meant
 pub mod Proof3
 pub mod RunAnswers

@@ -1,4 +1,4 @@
--- Demand 3 holds of all that the methods hand back, since it holds of the meaning (TakesBack.antt) and the methods follow that (Follow.antt). Assumes nothing.
+-- Demand 3 holds of all that the methods hand back, since it holds of the meaning (TakesBack.antt) and the methods follow that (Meant.antt). Assumes nothing.
 use mathlib.Core.List.{List, [], _∷_, _++_, map, List·Memᴰ·head as here, List·Memᴰ·tail as there, List·Memᴰ·not-nil as nowhere}
 use mathlib.Core.Path.{_≡_, sym, _∙_, ap, subst}
 use Prim.Native.Nat.{ℕ}
@@ -11,7 +11,7 @@ use Rattle.table.specs.declared.Table.{Table}
 use Rattle.table.specs.Table.{reading, written, Sized}
 use Rattle.promises.specs.Handed.{Given, Handed, Made, none, first, lastTable, lastBytes}
 use Rattle.promises.specs.Demand3.{lineOf, linesOf, restOf, StretchOf, TakenBackOf}
-use Rattle.promises.specs.Follow.{Good, good-sound, good-written, follows, last-good, last-model, last-bytes, lines-told, kept-stayed, lasts-same}
+use Rattle.promises.specs.Meant.{Good, good-sound, good-written, meant-call, last-good, last-model, last-bytes, lines-told, kept-stayed, lasts-same}
 
 -- what is handed back stands among the lines
 in-lines : {t : Table} {bs : Bytes} {cs : List Call} {hs : List Given} → Made t bs cs hs → (h : Given) → h ∈ hs → (c : Call) × (lineOf c h ∈ linesOf cs hs)
@@ -39,7 +39,7 @@ module _ (S : ℕ) (t : Table) (sized : Sized t) (bs : Bytes) (cs : List Call) (
       let here-bytes = last-bytes (s .madeBefore) good in
       let closing : Made t bs (s .before ++ (clear (s .thread) ∷ [])) (s .earlier ++ (s .last ∷ [])) =
       subst (λ x. Made t bs x (s .earlier ++ (s .last ∷ []))) (s .ending) (subst (λ x. Made t bs cs x) (s .answers) (s .made)) in
-      let last = follows _ _ (clear (s .thread)) (s .last) before (last-handed _ _ (s .madeBefore) closing) in
+      let last = meant-call _ _ (clear (s .thread)) (s .last) before (last-handed _ _ (s .madeBefore) closing) in
       record {
         sound = good-sound t good;
         there = s .there;

@@ -1,7 +1,7 @@
 -- Call 10 meets 000's schema for clearing a backing store. Assumes nothing.
 use mathlib.Core.Bool.{true, false}
 use mathlib.Core.List.{List}
-use mathlib.Core.Logic.{_⊎_, inl, inr, ⊎-elim}
+use mathlib.Core.Logic.{inl, inr, ⊎-elim}
 use mathlib.Core.Path.{_≡_, refl, sym, _∙_, ap}
 use Prim.Native.Nat.{ℕ}
 use native.Mathlib.Decide.{decLt}
@@ -10,7 +10,7 @@ use Rattle.lists.specs.Tests.{never, and-iff, not-iff, not-false-iff}
 use Rattle.lists.specs.ListLaws.{any-member, member-any}
 use Rattle.lists.specs.KeyedLaws.{member-has, at-member, member-at}
 use Rattle.meaning.specs.Model.{Store, Model, Bytes, freePart, threadName, noSuchThread, storeOf, contextIn}
-use Rattle.meaning.specs.Nesting.{Child, Nested, child, inChild, nested}
+use Rattle.meaning.specs.Nesting.{Child, Nested, child, nested}
 use Rattle.meaning.specs.Facts.{Sound}
 use Rattle.meaning.specs.Reports.{inUse}
 use Rattle.meaning.specs.Changes.{cleared, withStores}
@@ -19,7 +19,7 @@ use Rattle.meaning.specs.Laws.Nested.{named, child-link, link-child, nested-agr
 use Rattle.meaning.specs.Laws.Step.{accepted-exact, step-accepted}
 use Rattle.meaning.specs.Laws.Within.{context-listed}
 use Rattle.laws.specs.ByName.{Listed, by-name}
-use Rattle.laws.specs.Nesting.{never-in-itself, not-nested, inner-listed}
+use Rattle.laws.specs.Nesting.{never-in-itself, not-nested, parent-of-nested, inner-listed}
 use Rattle.laws.specs.StoreChanges.{Cleared, after-clear}
 use Rattle.laws.specs.StoreCalls.{clear-sound}
 use Rattle.schemas.specs.Memory.{Finite, picked, _⊕_⟼_, _⩤_}
@@ -30,11 +30,6 @@ use Rattle.schemas.specs.Threads.{RThreadClearBS}
 use Rattle.schemas.specs.Reading.{backingOf, storesOf, globalOf, listed-finite, store-invariant, plus-nested, nested-plus}
 use Rattle.schemas.specs.Steps.{checked, unchecked, told-sound, no-thread, same-store, global-stays}
 use Rattle.schemas.specs.StoreSteps.{same-line, stores-change, fixed-vars}
-
--- the parent of a nested store is what it is nested in, or is nested there too
-parent-nested : (m : Model) → Sound m → {x s c : ℕ} → Nested (m .stores) x c → Child (m .stores) x s → (s ≡ c) ⊎ Nested (m .stores) s c
-parent-nested m sound (child d) e = inl (sym (child-link m sound e .0) ∙ child-link m sound d .0)
-parent-nested m sound (inChild d n) e = ⊎-elim (λ q. inr (rw q (child d))) (λ o. inr (inChild d o)) (parent-nested m sound n e)
 
 module _ (m : Model) (sound : Sound m) (c : ℕ) (there : Listed (m .stores) c) (idle : inUse m c ≡ false) where
   abbrev ss : List Store
@@ -112,7 +107,7 @@ module _ (m : Model) (sound : Sound m) (c : ℕ) (there : Listed (m .stores) c) 
         (λ d. ⊎-elim
         (λ b. let out : Nested ss x c → ⊥ = λ n. b .1 (nested-plus ss n) in
         same-line ss ss′ x (g .totals x (not-nested m sound out)) (ap (λ s. s .used) (g .elsewhere x (not-nested m sound out) d))
-        (λ y. (λ e. child-after y x e .0, λ e. child-before y x e (λ n. ⊎-elim (λ q. d q) out (parent-nested m sound n e)))))
+        (λ y. (λ e. child-after y x e .0, λ e. child-before y x e (λ n. ⊎-elim (λ q. d q) out (rw (child-link m sound e .0) at (parent-of-nested m sound n))))))
         (λ e. absurd (d e))
         u),
   )

@@ -1,7 +1,7 @@
 -- Calls 12 and 13 meet 000's schemas: make stack, destroy stack. Assumes nothing.
 use mathlib.Core.Bool.{true, false, not}
 use mathlib.Core.List.{List}
-use mathlib.Core.Logic.{Iff·symm, _⊎_, inl, inr, ⊎-elim}
+use mathlib.Core.Logic.{Iff·symm, inl, inr, ⊎-elim}
 use mathlib.Core.Path.{_≡_, refl, sym, _∙_, ap}
 use Prim.Native.Nat.{ℕ, _+_, _<_, _≤_}
 use native.Mathlib.Decide.{decLt}

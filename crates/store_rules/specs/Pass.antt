@@ -26,11 +26,11 @@ ended k [] = 0
 ended k (c ∷ done) = if eqb (c .parent) k then end (whole c) else ended k done
 
 -- c lies in the used part of p; and in that of its parent
-abbrev pub within : Store → Store → Bool
-within c p = whole c inside usedPart p
+abbrev pub liesIn : Store → Store → Bool
+liesIn c p = whole c inside usedPart p
 
 unfoldable pub lies : List Store → Store → Bool
-lies ss c = within c (storeOf ss (c .parent))
+lies ss c = liesIn c (storeOf ss (c .parent))
 
 -- what is done lies in a list with the latest first
 unfoldable pub walk : List Store → List Store → List Store → Bool
@@ -110,10 +110,6 @@ walk-of ss done (c ∷ l) p =
     (and-iff (lies ss c) (leb (ended (c .parent) done) (c .start)) .1 (p .inParent c (here refl), le-leb (ended (c .parent) done) (c .start) low), next)
 
 -- ---- under rule 3 the pass is rule 4
-
-in-rest : (ss : List Store) {c : Store} → c ∈ rest ss → c ∈ ss
-in-rest [] m = absurd (nowhere m)
-in-rest (r ∷ ss) m = there m
 
 rest-rises : (ss : List Store) → Rising storeName ss → Rising storeName (rest ss)
 rest-rises [] r = tt

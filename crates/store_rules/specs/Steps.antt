@@ -19,7 +19,7 @@ use Rattle.names.specs.declared.lines.Store.{Store as Line}
 use Rattle.meaning.specs.Model.{Store, end, whole, storeName, noSuchStore, storeOf}
 use Rattle.meaning.specs.Rules.{storesHang}
 use Rattle.stores.specs.Stores.{view, zeros, storeLine, isStore}
-use Rattle.store_rules.specs.Pass.{ended, within, lies, walk, parent-listed, rises-too}
+use Rattle.store_rules.specs.Pass.{ended, liesIn, lies, walk, parent-listed, rises-too}
 
 -- The pass has come to i: its answer from the start is its answer from here. What is done is hidden; the array holds, where the store k is found, where the
 -- last child of k ended.
@@ -76,15 +76,15 @@ module _ (n : ℕ) (ls : List Line) (short : n ≤ length ls) where
       last : getD ends j 0 ≡ ended (at i .parent) (s .done)
       last = ap (λ p. getD ends p 0) here ∙ s .cached (at i .parent) (omega (arith, here, long, parent-low))
 
-      pub pass-out : (b : Bool) → b ≡ within (at i) (at j) → b ≡ false → false ≡ walk l [] (rest l)
+      pub pass-out : (b : Bool) → b ≡ liesIn (at i) (at j) → b ≡ false → false ≡ walk l [] (rest l)
       unfolding walk lies
       pass-out b e f = sym (s .same ∙ rw (from-here storeLine n ls short i high, is-parent, sym e ∙ f))
 
-      pub pass-early : (b : Bool) → b ≡ within (at i) (at j) → b ≡ true → at i .start < getD ends j 0 → false ≡ walk l [] (rest l)
+      pub pass-early : (b : Bool) → b ≡ liesIn (at i) (at j) → b ≡ true → at i .start < getD ends j 0 → false ≡ walk l [] (rest l)
       unfolding walk lies
       pass-early b e t h = sym (s .same ∙ rw (from-here storeLine n ls short i high, is-parent, sym e ∙ t, lt-leb (ended (at i .parent) (s .done)) (at i .start) (omega (arith, last))))
 
-      pub pass-more : (b : Bool) → b ≡ within (at i) (at j) → b ≡ true → getD ends j 0 ≤ at i .start → n ≤ length ends
+      pub pass-more : (b : Bool) → b ≡ liesIn (at i) (at j) → b ≡ true → getD ends j 0 ≤ at i .start → n ≤ length ends
           → (x : ℕ) → x ≡ end (whole (at i)) → Standing l (i + 1) (set ends j x)
       unfolding walk lies ended
       pass-more b e t h r x q =

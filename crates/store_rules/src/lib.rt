@@ -14,7 +14,7 @@ ghost use Rattle.meaning.specs.Rules.{rootSound, hangs, storesHang, fits};
 ghost use Rattle.meaning.specs.Reading.{runOf};
 ghost use Rattle.stores.specs.Stores.{view, storeLine, reading};
 ghost use Rattle.store_rules.specs.Starts.{startsOf, firstStarts, hangsAmong};
-ghost use Rattle.store_rules.specs.Pass.{within, walk};
+ghost use Rattle.store_rules.specs.Pass.{liesIn, walk};
 ghost use Rattle.store_rules.specs.Broken.{brokenStores};
 use names::Area;
 use names::Store;
@@ -156,7 +156,7 @@ fn lines_fit(lines: [Store; 64], n: usize) -> bool
 
 // The total of c lies in the used part of p.
 fn lies_in(c: Store, p: Store) -> bool
-    ensures { λ r. ⌜ r ≡ within (view c) (view p) ⌝ }
+    ensures { λ r. ⌜ r ≡ liesIn (view c) (view p) ⌝ }
 {
     let k = c.id;
     let q = p.id;

@@ -1,7 +1,7 @@
 -- Call 11: of a store outside S it is the same resize without what is in S; of a store nested in S it is not seen. Assumes nothing.
 use mathlib.Core.Bool.{Bool, true, false, not, _&&_}
 use mathlib.Core.List.{map-map}
-use mathlib.Core.Logic.{_⊎_, inl, inr, ⊎-elim}
+use mathlib.Core.Logic.{inl, inr, ⊎-elim}
 use mathlib.Core.Path.{_≡_, refl, sym, _∙_, ap}
 use Prim.Native.Nat.{ℕ, _+_, _-_, _<_}
 use native.Mathlib.Omega.{arith}
@@ -13,15 +13,15 @@ use Rattle.lists.specs.KeepLaws.{rest-map}
 use Rattle.lists.specs.ListChanges.{any-map, any-rest-keep}
 use Rattle.names.specs.Overhead.{storeTaken}
 use Rattle.meaning.specs.Model.{Store, Model, Bytes, storeOf}
-use Rattle.meaning.specs.Nesting.{Nested, child, inChild, nested, parentIn}
+use Rattle.meaning.specs.Nesting.{child, nested, parentIn}
 use Rattle.meaning.specs.Reports.{parentStore, notOnlyChild}
 use Rattle.meaning.specs.Facts.{Sound}
 use Rattle.meaning.specs.Changes.{lineWithUsed, lineWithTotal, cleared, withStores}
 use Rattle.meaning.specs.Calls.{resize, checks, change, allChecks, step}
-use Rattle.meaning.specs.Laws.Nested.{named, child-link, link-child, nested-agrees}
+use Rattle.meaning.specs.Laws.Nested.{named, link-child, nested-agrees}
 use Rattle.meaning.specs.Laws.Step.{accepted-exact}
 use Rattle.laws.specs.ByName.{Listed, totalIn, by-name, root-start}
-use Rattle.laws.specs.Nesting.{nested-transitive}
+use Rattle.laws.specs.Nesting.{nested-transitive, parent-of-nested}
 use Rattle.laws.specs.StoreChanges.{notIn, after-clear}
 use Rattle.stretches.specs.Stretch.{within, moved}
 use Rattle.stretches.specs.Cleared.{stays-listed, root-left}
@@ -34,11 +34,6 @@ use Rattle.stretches.specs.Contexts.{out-of}
 -- ---- the parent of a nested store
 
 module _ (S : ℕ) (m : Model) (sound : Sound m) where
-  parent-of-nested : {x : ℕ} (s : ℕ) → Nested (m .stores) x s → (parentIn (m .stores) x ≡ s) ⊎ Nested (m .stores) (parentIn (m .stores) x) s
-  parent-of-nested s (child c) = inl (child-link m sound c .0)
-  parent-of-nested s (inChild {y = y} c n) =
-      inr (⊎-elim (λ e. rw e (child c)) (λ k. inChild c k) (parent-of-nested y n))
-
   -- the parent of a store is within S exactly when the store is nested in S
   parent-within : (x : ℕ) → parentIn (m .stores) x < x → within S m (parentIn (m .stores) x) ≡ nested (m .stores) x S
   parent-within x l =
@@ -50,7 +45,7 @@ module _ (S : ℕ) (m : Model) (sound : Sound m) where
         | inr e ↦ nested-transitive (m .stores) (child c) (nested-agrees m sound p S .0 (unless-iff (eqb p S) (nested (m .stores) p S) .0 h e))
       ]))
       (λ h. ⊎-elim (λ e. rw (eq-eqb p S e)) (λ k. unless-iff (eqb p S) (nested (m .stores) p S) .1 (λ _. nested-agrees m sound p S .1 k))
-      (parent-of-nested S (nested-agrees m sound x S .0 h)))
+      (parent-of-nested m sound (nested-agrees m sound x S .0 h)))
 
 -- ---- the call
 
