@@ -1,3 +1,4 @@
 pub mod Bench
 pub mod Before
+pub mod Lends
 pub mod Steps
