@@ -9,7 +9,7 @@ use Rattle.meaning.specs.Reports.{firstReport}
 use Rattle.meaning.specs.Calls.{Call, setContext, usedOf, find, allocate, makeStore, clear, resize, makeStack, destroyStack, addThread, removeThread, checks, change, allChecks, step}
 use Rattle.meaning.specs.CallList.{Line, _answers_, _refusedWith_, _finds_below_, after, told, bytesAfter}
 use Rattle.meaning.specs.Parts.{noRun}
-use Rattle.meaning.specs.Cases.{lent, startAt}
+use Rattle.meaning.specs.Cases.{zeros, lent, startAt}
 use Rattle.meaning.specs.Laws.Agree.{sound-agrees}
 use Rattle.stretches.specs.Stretch.{workInside, moved, stayed, startsOrResizes, lasts, Stretch}
 
@@ -28,8 +28,8 @@ five =
     }
 
 -- the root 4096 with thread 1 in it, and the empty store 4112
-unfoldable pub begun : Model
-begun = after five lent (startAt 4096 256 8192 64 ∷ addThread 1 4096 ∷ makeStore 1 100 ∷ [])
+unfoldable pub begun : Model → Model
+begun none = after none lent (startAt 4096 256 8192 64 ∷ addThread 1 4096 ∷ makeStore 1 100 ∷ [])
 
 -- the calls before the last, with what is told of each
 unfoldable pub before : List Line
@@ -63,7 +63,7 @@ before =
 abbrev callsOf : List Line → List Call
 callsOf ls = map (λ l. l .call) ls
 
-pub what-is-told : told begun lent (callsOf before) ≡ before
+pub what-is-told : told (begun five) lent (callsOf before) ≡ before
 unfolding begun before told after five lent step allChecks checks change firstReport sound areasSound rootSound storesHang storesFit threadsPlaced stacksFit runSound nested depth storeHolding _holds_ _inside_ _apartFrom_
 what-is-told = refl
 
@@ -71,11 +71,27 @@ what-is-told = refl
 abbrev pub all-calls : List Call
 all-calls = callsOf before ++ (clear 2 ∷ [])
 
-pub is-a-stretch : Stretch 4112 begun lent all-calls
+pub is-a-stretch : Stretch 4112 (begun five) lent all-calls
 unfolding begun before bytesAfter startsOrResizes lasts after five lent step allChecks checks change firstReport sound areasSound rootSound storesHang storesFit threadsPlaced stacksFit runSound nested depth storeHolding _holds_ _inside_ _apartFrom_
 is-a-stretch =
     record {
-      sound = sound-agrees begun .0 refl;
+      sound = sound-agrees (begun five) .0 refl;
+      there = refl;
+      empty = refl;
+      before = callsOf before;
+      thread = 2;
+      ending = refl;
+      context = refl;
+      accepted = refl;
+      meanwhile = refl;
+    }
+
+-- and from a table of zeros
+pub is-a-stretch-of-a-table : Stretch 4112 (begun zeros) lent all-calls
+unfolding begun before bytesAfter startsOrResizes lasts after zeros lent step allChecks checks change firstReport sound areasSound rootSound storesHang storesFit threadsPlaced stacksFit runSound nested depth storeHolding _holds_ _inside_ _apartFrom_
+is-a-stretch-of-a-table =
+    record {
+      sound = sound-agrees (begun zeros) .0 refl;
       there = refl;
       empty = refl;
       before = callsOf before;
@@ -87,7 +103,7 @@ is-a-stretch =
     }
 
 -- what stays, with the answers: threads 3 and 1 are placed in 4112 where they were placed in 4136
-pub what-stays : stayed 4112 begun lent all-calls
+pub what-stays : stayed 4112 (begun five) lent all-calls
     ≡ (addThread 2 4112 answers 0
     ∷ addThread 3 4112 answers 0
     ∷ allocate 1 10 answers 4232
