@@ -7,12 +7,14 @@ use crate::ids::StoreId;
 use crate::ids::ThreadId;
 
 // A run of addresses.
+#[repr(C)]
 pub struct Area {
     pub start: u32,
     pub length: u32,
 }
 
 // A backing store: its first address is its identifier, and its total counts the overhead.
+#[repr(C)]
 pub struct Store {
     pub id: StoreId,
     pub total: u32,
@@ -21,12 +23,14 @@ pub struct Store {
 }
 
 // A thread with its allocation context.
+#[repr(C)]
 pub struct Thread {
     pub id: ThreadId,
     pub context: StoreId,
 }
 
 // A thread stack: its first address is its identifier, and its total counts the overhead.
+#[repr(C)]
 pub struct Stack {
     pub id: StackId,
     pub total: u32,

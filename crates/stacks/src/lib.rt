@@ -15,6 +15,7 @@ ghost use Rattle.stacks.specs.Stacks.{view, back, zeros, isZeros, stackL
 use names::Stack;
 use names::StackId;
 
+#[repr(C)]
 pub struct Stacks {
     pub count: u32,
     pub lines: [Stack; 32],

@@ -19,6 +19,7 @@ ghost use Rattle.stores.specs.Stores.{view, back, zeros, isZeros, storeL
 use names::Store;
 use names::StoreId;
 
+#[repr(C)]
 pub struct Stores {
     pub count: u32,
     pub lines: [Store; 64],

@@ -18,12 +18,14 @@ use stores::Stores;
 use threads::Threads;
 
 // The two areas.
+#[repr(C)]
 pub struct Areas {
     pub stores: Area,
     pub stacks: Area,
 }
 
 // The areas, the free run of the stack area, and the three lists.
+#[repr(C)]
 pub struct Table {
     pub areas: Areas,
     pub free: Area,

@@ -17,6 +17,7 @@ use names::StoreId;
 use names::Thread;
 use names::ThreadId;
 
+#[repr(C)]
 pub struct Threads {
     pub count: u32,
     pub lines: [Thread; 32],

@@ -1,0 +1,3 @@
+pub mod Board
+pub mod Run
+pub mod Layout

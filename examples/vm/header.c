@@ -1,0 +1,118 @@
+/* Whether board.h is the archive's: every field of the table stands where the archive puts it, and every report, value and place has the number that the header
+ * gives it. It prints a line for each that differs, and ends with status 1 if one does. */
+#include "board.h"
+
+#include <inttypes.h>
+#include <stdio.h>
+
+static unsigned compared, differ;
+
+static void same(const char *what, uint32_t found, uint32_t expected)
+{
+    compared++;
+    if (found != expected) {
+        differ++;
+        printf("%s is %" PRIu32 ", not %" PRIu32 "\n", what, found, expected);
+    }
+}
+
+/* The words of this table are 1, 2, 3 and so on. */
+static void table_words(void)
+{
+    struct board_table t = board_numbered();
+    uint32_t word = 0;
+    same("areas.stores.start", t.areas.stores.start, ++word);
+    same("areas.stores.length", t.areas.stores.length, ++word);
+    same("areas.stacks.start", t.areas.stacks.start, ++word);
+    same("areas.stacks.length", t.areas.stacks.length, ++word);
+    same("free.start", t.free.start, ++word);
+    same("free.length", t.free.length, ++word);
+    same("stores.count", t.stores.count, ++word);
+    for (unsigned i = 0; i < 64; i++) {
+        same("a store's id", t.stores.lines[i].id.address, ++word);
+        same("a store's total", t.stores.lines[i].total, ++word);
+        same("a store's used", t.stores.lines[i].used, ++word);
+        same("a store's parent", t.stores.lines[i].parent.address, ++word);
+    }
+    same("threads.count", t.threads.count, ++word);
+    for (unsigned i = 0; i < 32; i++) {
+        same("a thread's id", t.threads.lines[i].id.number, ++word);
+        same("a thread's context", t.threads.lines[i].context.address, ++word);
+    }
+    same("stacks.count", t.stacks.count, ++word);
+    for (unsigned i = 0; i < 32; i++) {
+        same("a stack's id", t.stacks.lines[i].id.address, ++word);
+        same("a stack's total", t.stacks.lines[i].total, ++word);
+    }
+    same("the last word", word, sizeof t / sizeof word);
+}
+
+/* One call for each report, and each field of what calls give back. No call gives BOARD_CANNOT_SHRINK. */
+static void answers(void)
+{
+    static uint8_t stores[256], stacks[64];
+    const struct board_area home = {4096, 256}, away = {8192, 64};
+    const board_thread_id one = {1}, two = {2};
+    const board_store_id root = {4096}, nowhere = {1};
+
+    struct board_table zeros = board_zeros();
+    same("the rule of zeros", board_broken_rule(zeros), 1);
+    same("unsound table", board_root(zeros).report, BOARD_UNSOUND_TABLE);
+    same("size too small", board_start(zeros, (struct board_area){4096, 15}, away).report, BOARD_SIZE_TOO_SMALL);
+    same("bad area", board_start(zeros, home, home).report, BOARD_BAD_AREA);
+
+    struct board_answer a = board_start(zeros, home, away);
+    same("accepted", a.report, BOARD_ACCEPTED);
+    same("an answer's value", a.value, 4096);
+    same("an answer's table", a.table.areas.stacks.start, 8192);
+    same("no such store", board_used(a.table, nowhere).report, BOARD_NO_SUCH_STORE);
+    same("no thread context", board_context(a.table, one).report, BOARD_NO_THREAD_CONTEXT);
+    same("root resize", board_resize(a.table, root, 8).report, BOARD_ROOT_RESIZE);
+    same("no such stack", board_destroy_stack(a.table, (board_stack_id){8192}).report, BOARD_NO_SUCH_STACK);
+    same("unknown address", board_find(a.table, 1).report, BOARD_UNKNOWN_ADDRESS);
+
+    a = board_add_thread(a.table, one, root);
+    same("out of memory", board_make_store(a.table, one, 241).report, BOARD_OUT_OF_MEMORY);
+    a = board_make_store(a.table, one, 16);
+    const board_store_id child = {a.value};
+    struct board_reply reply = board_total(a.table, child);
+    same("a reply's report", reply.report, BOARD_ACCEPTED);
+    same("a reply's value", reply.value, 32);
+    struct board_found found = board_find(a.table, child.address + 31);
+    same("find's report", found.report, BOARD_ACCEPTED);
+    same("find's value", found.value, child.address);
+    same("find's steps", found.steps, 1);
+
+    struct board_table two_threads = board_add_thread(a.table, two, child).table;
+    same("store in use", board_clear(two_threads, one).report, BOARD_STORE_IN_USE);
+    struct board_table filled = board_allocate(two_threads, stores, sizeof stores, two, 4).table;
+    same("not empty", board_resize(filled, child, 8).report, BOARD_NOT_EMPTY);
+    struct board_table siblings = board_make_store(a.table, one, 8).table;
+    same("not only child", board_resize(siblings, child, 8).report, BOARD_NOT_ONLY_CHILD);
+    struct board_table behind = board_allocate(a.table, stores, sizeof stores, one, 4).table;
+    same("fragmentation", board_resize(behind, child, 8).report, BOARD_FRAGMENTATION);
+    struct board_table full = a.table;
+    for (uint32_t i = 2; i <= 32; i++)
+        full = board_add_thread(full, (board_thread_id){i}, root).table;
+    same("table full", board_add_thread(full, (board_thread_id){33}, root).report, BOARD_TABLE_FULL);
+
+    struct board_run run = board_run(a.table, stores, sizeof stores, stacks, sizeof stacks, 8200, 3);
+    same("a run's report", run.report, BOARD_ACCEPTED);
+    same("a run's area", run.area, BOARD_STACKS);
+    same("a run's offset", run.offset, 8);
+    same("a run's length", run.length, 3);
+    run = board_run(a.table, stores, sizeof stores, stacks, sizeof stacks, 4101, 2);
+    same("a run's area", run.area, BOARD_STORES);
+    same("a run's offset", run.offset, 5);
+    run = board_run(a.table, stores, 255, stacks, sizeof stacks, 4101, 2);
+    same("a refused run's report", run.report, BOARD_BAD_AREA);
+    same("a refused run's length", run.length, 0);
+}
+
+int main(void)
+{
+    table_words();
+    answers();
+    printf("board.h: %u compared, %u differ\n", compared, differ);
+    return differ != 0;
+}
