@@ -1,24 +1,34 @@
 /*
- * The memory manager, for a virtual machine in C. Link target/staticlib/libboard.a, which `rt staticlib board` builds.
+ * The memory manager, for a virtual machine in C. Link target/staticlib/libboard.a, which
+ * `rt staticlib board` builds.
  *
- * A table says what is handed out: backing stores, one nested in the other, the threads with the store that each allocates in, and thread stacks. It is a
- * plain value of 1,572 bytes that the caller keeps. The archive keeps nothing: it has no data of its own, and needs memcpy and memset alone.
+ * A table says what is handed out: backing stores, one nested in the other, the threads with the
+ * store that each allocates in, and thread stacks. It is a plain value of 1,572 bytes that the
+ * caller keeps. The archive keeps nothing: it has no data of its own that changes, and it needs
+ * memcpy and memset alone.
  *
- * Every call gives a report, 0 where it is accepted, and a value. A refused call has the value 0 and leaves the table and every byte of the areas as they were.
- * The functions below take the table by value and give the new one back; those whose names end in _on take a pointer to the table, keep the new one
- * there, and give the report.
+ * Every call gives a report, 0 where it is accepted, and a value. A refused call has the value 0
+ * and leaves the table and every byte of the areas as they were. The archive's functions take the
+ * table by value and give the new one back; those whose names end in _on take a pointer to the
+ * table, keep the new one there, and give the report.
  *
  * What the caller must see to:
- * - A pointer to lent bytes leads to as many bytes as the length beside it says, and is not NULL even where that is 0. The store area and the stack area
- *   do not overlap, and nobody else writes to them during a call that is lent them.
- * - On one table, or one area, there is one call at a time. Tables with areas of their own may be used by several threads at once.
- * - Before its first start a table is that of board_zeros(). After that it is changed by calls alone. A table that was damaged is refused by report 16,
- *   where it breaks one of the rules that board_broken_rule() tells.
+ * - A pointer to lent bytes leads to as many bytes as the length beside it says, and is not NULL
+ *   even where that is 0. The store area and the stack area do not overlap, and nobody else uses
+ *   them during a call that is lent them.
+ * - On one table, or one area, there is one call at a time. Tables that have their own areas may be
+ *   used by several threads at once.
+ * - Before its first start a table is that of board_zeros(). From then on calls alone change it. A
+ *   table that was damaged is refused by report 16 where it breaks one of the eight rules.
+ * - There is stack enough: docs/BOARD.md says what each call takes.
  *
- * What is proved, and what is not: of each function that the archive has it is proved that it always returns, that it touches no memory but what it is given, and that it
- * answers and changes table and bytes as the specification says, for every table and every argument; crates/board has the promises. This header is
- * C, and so are its _on functions; they are not proved. That its structs are laid out as the archive's and that its numbers mean the same is only seen by examples/vm/header.c, which
- * reads every field and provokes every report. The C compiler and the promises that the caller keeps, above, are trusted.
+ * What is proved, and what is not: of each function of the archive, as it stands in its source, it
+ * is proved that it returns, that it touches no memory but what it is given, and that it answers
+ * and changes table and bytes as the specification says, for every table and every argument. The
+ * stack that it takes and its translation into the archive are not covered. This header is C, and
+ * so are the _on functions: nothing is proved of them. That the structs here are laid out as the
+ * archive's, and that the numbers mean the same, is seen by examples/vm/header.c alone, which reads
+ * every field and provokes every report.
  */
 #ifndef BOARD_H
 #define BOARD_H
@@ -49,9 +59,20 @@ enum board_report {
 
 /* ---- names: three types, so that the compiler refuses one where another is meant */
 
-typedef struct { uint32_t address; } board_store_id; /* a store's first address */
-typedef struct { uint32_t address; } board_stack_id; /* a stack's first address */
-typedef struct { uint32_t number; } board_thread_id; /* any number */
+/* a store's first address */
+typedef struct {
+    uint32_t address;
+} board_store_id;
+
+/* a stack's first address */
+typedef struct {
+    uint32_t address;
+} board_stack_id;
+
+/* any number */
+typedef struct {
+    uint32_t number;
+} board_thread_id;
 
 /* ---- the table */
 
@@ -128,7 +149,8 @@ struct board_found {
     uint32_t steps;
 };
 
-/* of the run question: the run is `length` bytes from `offset` on in the area of the stores or in that of the stacks */
+/* of the run question: the run is `length` bytes from `offset` on, in one of the two areas; at a
+ * refusal all but the report is 0 */
 enum board_lent { BOARD_STORES = 0, BOARD_STACKS = 1 };
 
 struct board_run {
@@ -141,7 +163,8 @@ struct board_run {
 /* ---- the layout: words of 32 bits, in the order written, nothing between them */
 
 #define BOARD_SIZE(type, bytes) _Static_assert(sizeof(type) == (bytes), "size of " #type)
-#define BOARD_PLACE(type, field, bytes) _Static_assert(offsetof(type, field) == (bytes), "place of " #type "." #field)
+#define BOARD_PLACE(type, field, bytes) \
+    _Static_assert(offsetof(type, field) == (bytes), "place of " #type "." #field)
 
 BOARD_SIZE(board_store_id, 4);
 BOARD_SIZE(board_stack_id, 4);
@@ -199,7 +222,10 @@ _Static_assert(_Alignof(struct board_answer) == 4, "alignment");
 #undef BOARD_SIZE
 #undef BOARD_PLACE
 
-/* ---- the archive's functions, with the number of each call */
+/* ---- the archive's functions, with the number of each call and the reports that refuse it
+ *
+ * The reports stand in the order in which they are checked: the first that applies is given. Every
+ * call but 0 is refused by 16 before all others where the table is not sound. */
 
 /* the table before the first start */
 struct board_table board_zeros(void);
@@ -207,61 +233,72 @@ struct board_table board_zeros(void);
 /* the lowest of the eight rules of a sound table that is broken, 0 if none */
 uint32_t board_broken_rule(struct board_table table);
 
-/* 0: one store over the whole area, the root; no threads, no stacks. On any table. Value: the root */
-struct board_answer board_start(struct board_table table, struct board_area stores, struct board_area stacks);
+/* 0, refused by 4, 15: one store over the whole store area, the root; no threads, no stacks. It may
+ * be called on any table. Value: the root */
+struct board_answer board_start(struct board_table table, struct board_area stores,
+                                struct board_area stacks);
 
 /* 1: the root */
 struct board_reply board_root(struct board_table table);
 
-/* 2: the store that the thread allocates in */
+/* 2, refused by 12: the store that the thread allocates in, its context */
 struct board_reply board_context(struct board_table table, board_thread_id thread);
 
-/* 3: the thread allocates in that store from now on */
-struct board_answer board_set_context(struct board_table table, board_thread_id thread, board_store_id store);
+/* 3, refused by 12, 5: the thread allocates in that store from now on */
+struct board_answer board_set_context(struct board_table table, board_thread_id thread,
+                                      board_store_id store);
 
-/* 4, 5, 6: the store's bytes in all, used, free; 16 bytes of all are its overhead */
+/* 4, 5, 6, refused by 5: the bytes of the store in all, used and free; 16 are its overhead */
 struct board_reply board_total(struct board_table table, board_store_id store);
 struct board_reply board_used(struct board_table table, board_store_id store);
 struct board_reply board_free(struct board_table table, board_store_id store);
 
-/* 7: the deepest store that holds the address */
+/* 7, refused by 9: the deepest store that holds the address */
 struct board_found board_find(struct board_table table, uint32_t address);
 
-/* 8: n bytes in the thread's store, behind 4 bytes of overhead; all of them become 0. `area` is the whole store area, and `length` its length. Value: the
- * address of the n bytes */
-struct board_answer board_allocate(struct board_table table, uint8_t *area, size_t length, board_thread_id thread, uint32_t n);
+/* 8, refused by 15, 12, 1: n bytes in the thread's store, behind 4 bytes of overhead. All of them
+ * become 0, and no other byte changes. `area` is the whole store area, of the length that the table
+ * says. Value: the address of the n bytes */
+struct board_answer board_allocate(struct board_table table, uint8_t *area, size_t length,
+                                   board_thread_id thread, uint32_t n);
 
-/* 9: a store of n bytes in the thread's store. Value: the new store */
+/* 9, refused by 12, 1, 14: a store for n bytes in the thread's store. Value: the new store */
 struct board_answer board_make_store(struct board_table table, board_thread_id thread, uint32_t n);
 
-/* 10: all that was allocated in the thread's store is free again, and all stores nested in it are gone */
+/* 10, refused by 12, 6: the thread's store is empty again, and the stores nested in it are gone */
 struct board_answer board_clear(struct board_table table, board_thread_id thread);
 
-/* 11: the store has room for n bytes from now on; it must be empty, the only child and the last in its parent. Value: the store */
+/* 11, refused by 5, 7, 8, 2, 11, 13, 1: the store has room for n bytes from now on. It is empty,
+ * its parent's only child, and ends where its parent's free bytes begin. Value: the store */
 struct board_answer board_resize(struct board_table table, board_store_id store, uint32_t n);
 
-/* 12: a stack of n bytes, with 8 bytes of overhead. Value: the stack */
+/* 12, refused by 1, 14: a stack of n bytes, and 8 of overhead. Value: the stack */
 struct board_answer board_make_stack(struct board_table table, uint32_t n);
 
-/* 13: its bytes join the free run, so it must touch one of its ends unless no byte is free */
+/* 13, refused by 10, 13: the stack's bytes join the free run, which they touch or which is empty */
 struct board_answer board_destroy_stack(struct board_table table, board_stack_id stack);
 
-/* 14: the thread is listed, and allocates in that store */
-struct board_answer board_add_thread(struct board_table table, board_thread_id thread, board_store_id store);
+/* 14, refused by 5, 14: the thread is listed, and allocates in that store */
+struct board_answer board_add_thread(struct board_table table, board_thread_id thread,
+                                     board_store_id store);
 
-/* 15: the thread is not listed any more */
+/* 15: the thread is no longer listed */
 struct board_answer board_remove_thread(struct board_table table, board_thread_id thread);
 
-/* The run question: where n bytes from an address on lie in the two areas, which are lent whole. No byte is changed. */
-struct board_run board_run(struct board_table table, const uint8_t *stores, size_t stores_length, const uint8_t *stacks, size_t stacks_length,
-                           uint32_t address, uint32_t n);
+/* The run question, refused by 15, 9: where the n bytes from an address on lie in the two areas,
+ * which are lent whole. No byte is changed. */
+struct board_run board_run(struct board_table table, const uint8_t *stores, size_t stores_length,
+                           const uint8_t *stacks, size_t stacks_length, uint32_t address,
+                           uint32_t n);
 
-/* a table whose words are 1, 2, 3 and so on, in the order of its fields, to compare layouts with; it is not sound */
+/* For a comparison of layouts: a table whose words are 1, 2, 3 and so on, in the order of its
+ * fields. It is not sound. */
 struct board_table board_numbered(void);
 
 /* ---- the same on a table that stays where it is */
 
-static inline enum board_report board_keep(struct board_table *table, const struct board_answer *answer)
+static inline enum board_report board_keep(struct board_table *table,
+                                           const struct board_answer *answer)
 {
     *table = answer->table;
     return (enum board_report)answer->report;
@@ -272,7 +309,8 @@ static inline uint32_t board_broken_rule_on(const struct board_table *table)
     return board_broken_rule(*table);
 }
 
-static inline enum board_report board_start_on(struct board_table *table, struct board_area stores, struct board_area stacks, board_store_id *root)
+static inline enum board_report board_start_on(struct board_table *table, struct board_area stores,
+                                               struct board_area stacks, board_store_id *root)
 {
     struct board_answer answer = board_start(*table, stores, stacks);
     root->address = answer.value;
@@ -286,41 +324,47 @@ static inline enum board_report board_root_on(const struct board_table *table, b
     return (enum board_report)reply.report;
 }
 
-static inline enum board_report board_context_on(const struct board_table *table, board_thread_id thread, board_store_id *store)
+static inline enum board_report board_context_on(const struct board_table *table,
+                                                 board_thread_id thread, board_store_id *store)
 {
     struct board_reply reply = board_context(*table, thread);
     store->address = reply.value;
     return (enum board_report)reply.report;
 }
 
-static inline enum board_report board_set_context_on(struct board_table *table, board_thread_id thread, board_store_id store)
+static inline enum board_report board_set_context_on(struct board_table *table,
+                                                     board_thread_id thread, board_store_id store)
 {
     struct board_answer answer = board_set_context(*table, thread, store);
     return board_keep(table, &answer);
 }
 
-static inline enum board_report board_total_on(const struct board_table *table, board_store_id store, uint32_t *bytes)
+static inline enum board_report board_total_on(const struct board_table *table,
+                                               board_store_id store, uint32_t *bytes)
 {
     struct board_reply reply = board_total(*table, store);
     *bytes = reply.value;
     return (enum board_report)reply.report;
 }
 
-static inline enum board_report board_used_on(const struct board_table *table, board_store_id store, uint32_t *bytes)
+static inline enum board_report board_used_on(const struct board_table *table, board_store_id store,
+                                              uint32_t *bytes)
 {
     struct board_reply reply = board_used(*table, store);
     *bytes = reply.value;
     return (enum board_report)reply.report;
 }
 
-static inline enum board_report board_free_on(const struct board_table *table, board_store_id store, uint32_t *bytes)
+static inline enum board_report board_free_on(const struct board_table *table, board_store_id store,
+                                              uint32_t *bytes)
 {
     struct board_reply reply = board_free(*table, store);
     *bytes = reply.value;
     return (enum board_report)reply.report;
 }
 
-static inline enum board_report board_find_on(const struct board_table *table, uint32_t address, board_store_id *store, uint32_t *steps)
+static inline enum board_report board_find_on(const struct board_table *table, uint32_t address,
+                                              board_store_id *store, uint32_t *steps)
 {
     struct board_found found = board_find(*table, address);
     store->address = found.value;
@@ -328,7 +372,8 @@ static inline enum board_report board_find_on(const struct board_table *table, u
     return (enum board_report)found.report;
 }
 
-static inline enum board_report board_allocate_on(struct board_table *table, uint8_t *area, size_t length, board_thread_id thread, uint32_t n,
+static inline enum board_report board_allocate_on(struct board_table *table, uint8_t *area,
+                                                  size_t length, board_thread_id thread, uint32_t n,
                                                   uint32_t *address)
 {
     struct board_answer answer = board_allocate(*table, area, length, thread, n);
@@ -336,7 +381,9 @@ static inline enum board_report board_allocate_on(struct board_table *table, uin
     return board_keep(table, &answer);
 }
 
-static inline enum board_report board_make_store_on(struct board_table *table, board_thread_id thread, uint32_t n, board_store_id *store)
+static inline enum board_report board_make_store_on(struct board_table *table,
+                                                    board_thread_id thread, uint32_t n,
+                                                    board_store_id *store)
 {
     struct board_answer answer = board_make_store(*table, thread, n);
     store->address = answer.value;
@@ -349,42 +396,50 @@ static inline enum board_report board_clear_on(struct board_table *table, board_
     return board_keep(table, &answer);
 }
 
-static inline enum board_report board_resize_on(struct board_table *table, board_store_id store, uint32_t n)
+static inline enum board_report board_resize_on(struct board_table *table, board_store_id store,
+                                                uint32_t n)
 {
     struct board_answer answer = board_resize(*table, store, n);
     return board_keep(table, &answer);
 }
 
-static inline enum board_report board_make_stack_on(struct board_table *table, uint32_t n, board_stack_id *stack)
+static inline enum board_report board_make_stack_on(struct board_table *table, uint32_t n,
+                                                    board_stack_id *stack)
 {
     struct board_answer answer = board_make_stack(*table, n);
     stack->address = answer.value;
     return board_keep(table, &answer);
 }
 
-static inline enum board_report board_destroy_stack_on(struct board_table *table, board_stack_id stack)
+static inline enum board_report board_destroy_stack_on(struct board_table *table,
+                                                       board_stack_id stack)
 {
     struct board_answer answer = board_destroy_stack(*table, stack);
     return board_keep(table, &answer);
 }
 
-static inline enum board_report board_add_thread_on(struct board_table *table, board_thread_id thread, board_store_id store)
+static inline enum board_report board_add_thread_on(struct board_table *table,
+                                                    board_thread_id thread, board_store_id store)
 {
     struct board_answer answer = board_add_thread(*table, thread, store);
     return board_keep(table, &answer);
 }
 
-static inline enum board_report board_remove_thread_on(struct board_table *table, board_thread_id thread)
+static inline enum board_report board_remove_thread_on(struct board_table *table,
+                                                       board_thread_id thread)
 {
     struct board_answer answer = board_remove_thread(*table, thread);
     return board_keep(table, &answer);
 }
 
 /* The run is given as a pointer to its first byte, NULL at a refusal. */
-static inline enum board_report board_run_on(const struct board_table *table, uint8_t *stores, size_t stores_length, uint8_t *stacks,
-                                             size_t stacks_length, uint32_t address, uint32_t n, uint8_t **run)
+static inline enum board_report board_run_on(const struct board_table *table, uint8_t *stores,
+                                             size_t stores_length, uint8_t *stacks,
+                                             size_t stacks_length, uint32_t address, uint32_t n,
+                                             uint8_t **run)
 {
-    struct board_run found = board_run(*table, stores, stores_length, stacks, stacks_length, address, n);
+    struct board_run found =
+        board_run(*table, stores, stores_length, stacks, stacks_length, address, n);
     uint8_t *area = found.area == BOARD_STORES ? stores : stacks;
     *run = found.report == BOARD_ACCEPTED ? area + found.offset : NULL;
     return (enum board_report)found.report;

@@ -1,4 +1,5 @@
-/* The bench, through board.h: it reads a call list in the bench's records from standard input and prints what the program `bench` prints. */
+/* The bench, through board.h: it reads a call list in the bench's records from standard input and
+ * prints what the program `bench` prints. */
 #include "board.h"
 
 #include <inttypes.h>
@@ -26,7 +27,8 @@ static int decode(const uint8_t *at, size_t left, struct call *call)
     call->code = at[2];
     for (unsigned i = 0; i < 4; i++) {
         const uint8_t *b = at + 3 + 4 * i;
-        call->n[i] = (uint32_t)b[0] | (uint32_t)b[1] << 8 | (uint32_t)b[2] << 16 | (uint32_t)b[3] << 24;
+        call->n[i] =
+            (uint32_t)b[0] | (uint32_t)b[1] << 8 | (uint32_t)b[2] << 16 | (uint32_t)b[3] << 24;
         if (i >= counts[call->code] && call->n[i] != 0)
             return 0;
     }

@@ -1,11 +1,13 @@
-/* A tiny mission, as a virtual machine would run it: a start, a thread, a store for the mission, blocks written and read in place, and a clear at its end. */
+/* A tiny mission, as a virtual machine would run it: a start, a thread, a store for the mission,
+ * blocks written and read in place, and a clear at its end. */
 #include "board.h"
 
 #include <inttypes.h>
 #include <stdio.h>
 #include <string.h>
 
-/* What the board gives to the line's program, at the addresses that the program sees. The machine keeps them, and the table beside them. */
+/* What the board gives to the line's program, at the addresses that the program sees. The machine
+ * keeps them, and the table beside them. */
 static uint8_t stores[1024];
 static uint8_t stacks[256];
 static struct board_table table;
@@ -22,7 +24,8 @@ static int refused(const char *what, enum board_report report)
 static uint8_t *at(uint32_t address, uint32_t n)
 {
     uint8_t *run;
-    refused("run", board_run_on(&table, stores, sizeof stores, stacks, sizeof stacks, address, n, &run));
+    refused("run",
+            board_run_on(&table, stores, sizeof stores, stacks, sizeof stacks, address, n, &run));
     return run;
 }
 
@@ -53,10 +56,12 @@ int main(void)
     board_stack_id stack;
     uint32_t free_before, free_after, steps;
 
-    /* One store, the root, over the whole store area; then the printer's thread, which allocates in it, and its stack. */
+    /* One store, the root, over the whole store area; then the printer's thread, which allocates in
+     * it, and its stack. */
     table = board_zeros();
     if (refused("start", board_start_on(&table, store_area, stack_area, &root)) ||
-        refused("add thread", board_add_thread_on(&table, printer, root)) || refused("make stack", board_make_stack_on(&table, 120, &stack)))
+        refused("add thread", board_add_thread_on(&table, printer, root)) ||
+        refused("make stack", board_make_stack_on(&table, 120, &stack)))
         return 1;
     printf("root at %" PRIu32 ", stack at %" PRIu32 "\n", root.address, stack.address);
 
@@ -73,17 +78,20 @@ int main(void)
 
     /* Whose block is it? */
     board_find_on(&table, batch, &found, &steps);
-    printf("%" PRIu32 " is in the store %" PRIu32 ", %" PRIu32 " step below the root\n", batch, found.address, steps);
+    printf("%" PRIu32 " is in the store %" PRIu32 ", %" PRIu32 " step below the root\n", batch,
+           found.address, steps);
 
     /* The mission ends: all that it allocated is free again, and the label is still there. */
     if (refused("clear", board_clear_on(&table, printer)))
         return 1;
     board_free_on(&table, mission, &free_after);
-    printf("free in the mission's store: %" PRIu32 " before, %" PRIu32 " after; %s\n", free_before, free_after, text(label, 12));
+    printf("free in the mission's store: %" PRIu32 " before, %" PRIu32 " after; %s\n", free_before,
+           free_after, text(label, 12));
 
     /* A request that is too large is refused, and nothing is lost. */
     uint32_t address;
     printf("a block of 401 bytes: report %u, broken rule %" PRIu32 "\n",
-           (unsigned)board_allocate_on(&table, stores, sizeof stores, printer, 401, &address), board_broken_rule_on(&table));
+           (unsigned)board_allocate_on(&table, stores, sizeof stores, printer, 401, &address),
+           board_broken_rule_on(&table));
     return 0;
 }

@@ -1,4 +1,5 @@
-/* Document 01's example list, call by call: it prints the bench's 18 lines, code, report and value of each call. */
+/* Document 01's example list, call by call: it prints the bench's 18 lines, code, report and value
+ * of each call. */
 #include "board.h"
 
 #include <inttypes.h>

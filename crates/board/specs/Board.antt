@@ -1,5 +1,5 @@
 -- What the board's calls hand back to C, in the words of a call on a table. Assumes nothing.
-use mathlib.Core.Bool.{true, false, _||_}
+use mathlib.Core.Bool.{false, _||_}
 use mathlib.Core.List.{[]}
 use mathlib.Core.Logic.{inl, inr}
 use mathlib.Core.Path.{_≡_, refl, sym, _∙_, ap}
@@ -21,16 +21,16 @@ use Rattle.board.specs.declared.answer.BoardReply.{BoardReply}
 use Rattle.board.specs.declared.answer.BoardFound.{BoardFound}
 
 -- a change: the table after it, the report and the value
-abbrev pub given : BoardAnswer → Seen
-given r = record { table = r .table; report = r .report; value = r .value }
+abbrev pub answerSeen : BoardAnswer → Seen
+answerSeen r = record { table = r .table; report = r .report; value = r .value }
 
 -- a question, which hands back no table: the one after it is the caller's
-abbrev pub asked : Table → BoardReply → Seen
-asked t r = record { table = t; report = r .report; value = r .value }
+abbrev pub replySeen : Table → BoardReply → Seen
+replySeen t r = record { table = t; report = r .report; value = r .value }
 
 -- find, which tells its steps too
-abbrev pub askedFind : Table → BoardFound → SeenFound
-askedFind t r = record { table = t; report = r .report; value = r .value; steps = r .steps }
+abbrev pub foundSeen : Table → BoardFound → SeenFound
+foundSeen t r = record { table = t; report = r .report; value = r .value; steps = r .steps }
 
 -- ---- laws
 
@@ -52,14 +52,14 @@ question-keeps-table t n c q =
     ]
 
 -- what is told of a question is what the call tells of it, and the caller's table the one after it
-pub question-told : (t : Table) → Sized t → (c : Call) → changesModel (code c) ≡ false → (a : Answer) (r : BoardReply) → asked (a .table) r ≡ seen a
-    → seen a ≡ answer (called t [] c) → asked t r ≡ answer (called t [] c)
+pub question-told : (t : Table) → Sized t → (c : Call) → changesModel (code c) ≡ false → (a : Answer) (r : BoardReply) → replySeen (a .table) r ≡ seen a
+    → seen a ≡ answer (called t [] c) → replySeen t r ≡ answer (called t [] c)
 question-told t n c q a r e f =
     let same : a .table ≡ t = ap (λ s. s .table) f ∙ question-keeps-table t n c q in
-    ap (λ u. asked u r) (sym same) ∙ e ∙ f
+    ap (λ u. replySeen u r) (sym same) ∙ e ∙ f
 
-pub find-told : (t : Table) → Sized t → (x : ℕ) (a : Found) (r : BoardFound) → askedFind (a .table) r ≡ seenFound a
-    → seenFound a ≡ foundAnswer (called t [] (find x)) → askedFind t r ≡ foundAnswer (called t [] (find x))
+pub find-told : (t : Table) → Sized t → (x : ℕ) (a : Found) (r : BoardFound) → foundSeen (a .table) r ≡ seenFound a
+    → seenFound a ≡ foundAnswer (called t [] (find x)) → foundSeen t r ≡ foundAnswer (called t [] (find x))
 find-told t n x a r e f =
     let same : a .table ≡ t = ap (λ s. s .table) f ∙ question-keeps-table t n (find x) refl in
-    ap (λ u. askedFind u r) (sym same) ∙ e ∙ f
+    ap (λ u. foundSeen u r) (sym same) ∙ e ∙ f

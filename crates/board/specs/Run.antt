@@ -11,7 +11,7 @@ use Rattle.lists.specs.Tests.{tested}
 use Rattle.names.specs.declared.lines.Area.{Area}
 use Rattle.meaning.specs.Model.{Bytes, _holds_}
 use Rattle.meaning.specs.Reading.{runOf}
-use Rattle.meaning.specs.RunQuestion.{Lent, ofStores, ofStacks, Part, partOf, emptyPart, runPart, runReport}
+use Rattle.meaning.specs.RunQuestion.{Lent, ofStores, ofStacks, Part, partOf, emptyPart, runPart}
 use Rattle.runs.specs.Runs.{in-second}
 use Rattle.table.specs.declared.Table.{Table}
 use Rattle.table.specs.Table.{reading, soundTable, Sized}

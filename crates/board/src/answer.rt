@@ -1,7 +1,7 @@
 // What the calls hand back to C.
 ghost use mathlib.Core.Path.{_≡_};
 ghost use Rattle.table.specs.Calls.{seen, seenFound};
-ghost use Rattle.board.specs.Board.{given, asked, askedFind};
+ghost use Rattle.board.specs.Board.{answerSeen, replySeen, foundSeen};
 use table::Answer;
 use table::Found;
 use table::Table;
@@ -30,7 +30,7 @@ pub struct BoardFound {
 }
 
 pub fn answer_of(answer: Answer) -> BoardAnswer
-    ensures { λ r. ⌜ given r ≡ seen answer ⌝ }
+    ensures { λ r. ⌜ answerSeen r ≡ seen answer ⌝ }
 {
     let table = answer.table;
     let report = answer.report;
@@ -42,7 +42,7 @@ pub fn answer_of(answer: Answer) -> BoardAnswer
 }
 
 pub fn reply_of(answer: Answer) -> BoardReply
-    ensures { λ r. ⌜ asked (answer .table) r ≡ seen answer ⌝ }
+    ensures { λ r. ⌜ replySeen (answer .table) r ≡ seen answer ⌝ }
 {
     let report = answer.report;
     BoardReply {
@@ -52,7 +52,7 @@ pub fn reply_of(answer: Answer) -> BoardReply
 }
 
 pub fn found_of(found: Found) -> BoardFound
-    ensures { λ r. ⌜ askedFind (found .table) r ≡ seenFound found ⌝ }
+    ensures { λ r. ⌜ foundSeen (found .table) r ≡ seenFound found ⌝ }
 {
     let report = found.report;
     BoardFound {

@@ -5,7 +5,7 @@ ghost use Rattle.meaning.specs.Calls.{start, setContext, allocate, makeStore, c
 ghost use Rattle.meaning.specs.Reading.{runOf};
 ghost use Rattle.table.specs.Table.{zeroTable};
 ghost use Rattle.table.specs.Calls.{called, answer};
-ghost use Rattle.board.specs.Board.{given};
+ghost use Rattle.board.specs.Board.{answerSeen};
 use crate::answer::BoardAnswer;
 use crate::answer::answer_of;
 use names::Area;
@@ -25,7 +25,7 @@ pub extern "C" fn board_zeros() -> Table
 // Call 0.
 #[no_mangle]
 pub extern "C" fn board_start(table: Table, stores: Area, stacks: Area) -> BoardAnswer
-    ensures { λ r. ⌜ given r ≡ answer (called table [] (start (runOf stores) (runOf stacks))) ⌝ }
+    ensures { λ r. ⌜ answerSeen r ≡ answer (called table [] (start (runOf stores) (runOf stacks))) ⌝ }
 {
     answer_of(table.start(stores, stacks))
 }
@@ -33,7 +33,7 @@ pub extern "C" fn board_start(table: Table, stores: Area, stacks: Area) -> Board
 // Call 3.
 #[no_mangle]
 pub extern "C" fn board_set_context(table: Table, thread: ThreadId, store: StoreId) -> BoardAnswer
-    ensures { λ r. ⌜ given r ≡ answer (called table [] (setContext (thread .0) (store .0))) ⌝ }
+    ensures { λ r. ⌜ answerSeen r ≡ answer (called table [] (setContext (thread .0) (store .0))) ⌝ }
 {
     answer_of(table.set_context(thread, store))
 }
@@ -46,7 +46,7 @@ pub extern "C" fn board_allocate(
     thread: ThreadId,
     n: u32,
 ) -> BoardAnswer
-    ensures told { λ r. ⌜ given r ≡ answer (called table (now (area .entry)) (allocate (thread .0) n)) ⌝ }
+    ensures told { λ r. ⌜ answerSeen r ≡ answer (called table (now (area .entry)) (allocate (thread .0) n)) ⌝ }
     ensures bytes { λ _. ⌜ now (area .exit) ≡ called table (now (area .entry)) (allocate (thread .0) n) .bytes ⌝ }
 {
     answer_of(table.allocate(area, thread, n))
@@ -55,7 +55,7 @@ pub extern "C" fn board_allocate(
 // Call 9.
 #[no_mangle]
 pub extern "C" fn board_make_store(table: Table, thread: ThreadId, n: u32) -> BoardAnswer
-    ensures { λ r. ⌜ given r ≡ answer (called table [] (makeStore (thread .0) n)) ⌝ }
+    ensures { λ r. ⌜ answerSeen r ≡ answer (called table [] (makeStore (thread .0) n)) ⌝ }
 {
     answer_of(table.make_store(thread, n))
 }
@@ -63,7 +63,7 @@ pub extern "C" fn board_make_store(table: Table, thread: ThreadId, n: u32) -> Bo
 // Call 10.
 #[no_mangle]
 pub extern "C" fn board_clear(table: Table, thread: ThreadId) -> BoardAnswer
-    ensures { λ r. ⌜ given r ≡ answer (called table [] (clear (thread .0))) ⌝ }
+    ensures { λ r. ⌜ answerSeen r ≡ answer (called table [] (clear (thread .0))) ⌝ }
 {
     answer_of(table.clear(thread))
 }
@@ -71,7 +71,7 @@ pub extern "C" fn board_clear(table: Table, thread: ThreadId) -> BoardAnswer
 // Call 11.
 #[no_mangle]
 pub extern "C" fn board_resize(table: Table, store: StoreId, n: u32) -> BoardAnswer
-    ensures { λ r. ⌜ given r ≡ answer (called table [] (resize (store .0) n)) ⌝ }
+    ensures { λ r. ⌜ answerSeen r ≡ answer (called table [] (resize (store .0) n)) ⌝ }
 {
     answer_of(table.resize(store, n))
 }
@@ -79,7 +79,7 @@ pub extern "C" fn board_resize(table: Table, store: StoreId, n: u32) -> BoardAns
 // Call 12.
 #[no_mangle]
 pub extern "C" fn board_make_stack(table: Table, n: u32) -> BoardAnswer
-    ensures { λ r. ⌜ given r ≡ answer (called table [] (makeStack n)) ⌝ }
+    ensures { λ r. ⌜ answerSeen r ≡ answer (called table [] (makeStack n)) ⌝ }
 {
     answer_of(table.make_stack(n))
 }
@@ -87,7 +87,7 @@ pub extern "C" fn board_make_stack(table: Table, n: u32) -> BoardAnswer
 // Call 13.
 #[no_mangle]
 pub extern "C" fn board_destroy_stack(table: Table, stack: StackId) -> BoardAnswer
-    ensures { λ r. ⌜ given r ≡ answer (called table [] (destroyStack (stack .0))) ⌝ }
+    ensures { λ r. ⌜ answerSeen r ≡ answer (called table [] (destroyStack (stack .0))) ⌝ }
 {
     answer_of(table.destroy_stack(stack))
 }
@@ -95,7 +95,7 @@ pub extern "C" fn board_destroy_stack(table: Table, stack: StackId) -> BoardAnsw
 // Call 14.
 #[no_mangle]
 pub extern "C" fn board_add_thread(table: Table, thread: ThreadId, store: StoreId) -> BoardAnswer
-    ensures { λ r. ⌜ given r ≡ answer (called table [] (addThread (thread .0) (store .0))) ⌝ }
+    ensures { λ r. ⌜ answerSeen r ≡ answer (called table [] (addThread (thread .0) (store .0))) ⌝ }
 {
     answer_of(table.add_thread(thread, store))
 }
@@ -103,7 +103,7 @@ pub extern "C" fn board_add_thread(table: Table, thread: ThreadId, store: StoreI
 // Call 15.
 #[no_mangle]
 pub extern "C" fn board_remove_thread(table: Table, thread: ThreadId) -> BoardAnswer
-    ensures { λ r. ⌜ given r ≡ answer (called table [] (removeThread (thread .0))) ⌝ }
+    ensures { λ r. ⌜ answerSeen r ≡ answer (called table [] (removeThread (thread .0))) ⌝ }
 {
     answer_of(table.remove_thread(thread))
 }

@@ -5,7 +5,7 @@ ghost use mathlib.Core.Path.{_≡_};
 ghost use Rattle.meaning.specs.Calls.{root, contextOf, totalOf, usedOf, freeOf, find};
 ghost use Rattle.table.specs.Table.{brokenRule};
 ghost use Rattle.table.specs.Calls.{called, answer, foundAnswer};
-ghost use Rattle.board.specs.Board.{asked, askedFind};
+ghost use Rattle.board.specs.Board.{replySeen, foundSeen};
 use crate::answer::BoardFound;
 use crate::answer::BoardReply;
 use crate::answer::found_of;
@@ -25,7 +25,7 @@ pub extern "C" fn board_broken_rule(table: Table) -> u32
 // Call 1.
 #[no_mangle]
 pub extern "C" fn board_root(table: Table) -> BoardReply
-    ensures { λ r. ⌜ asked table r ≡ answer (called table [] root) ⌝ }
+    ensures { λ r. ⌜ replySeen table r ≡ answer (called table [] root) ⌝ }
 {
     reply_of(table.root())
 }
@@ -33,7 +33,7 @@ pub extern "C" fn board_root(table: Table) -> BoardReply
 // Call 2.
 #[no_mangle]
 pub extern "C" fn board_context(table: Table, thread: ThreadId) -> BoardReply
-    ensures { λ r. ⌜ asked table r ≡ answer (called table [] (contextOf (thread .0))) ⌝ }
+    ensures { λ r. ⌜ replySeen table r ≡ answer (called table [] (contextOf (thread .0))) ⌝ }
 {
     reply_of(table.context(thread))
 }
@@ -41,7 +41,7 @@ pub extern "C" fn board_context(table: Table, thread: ThreadId) -> BoardReply
 // Call 4.
 #[no_mangle]
 pub extern "C" fn board_total(table: Table, store: StoreId) -> BoardReply
-    ensures { λ r. ⌜ asked table r ≡ answer (called table [] (totalOf (store .0))) ⌝ }
+    ensures { λ r. ⌜ replySeen table r ≡ answer (called table [] (totalOf (store .0))) ⌝ }
 {
     reply_of(table.total(store))
 }
@@ -49,7 +49,7 @@ pub extern "C" fn board_total(table: Table, store: StoreId) -> BoardReply
 // Call 5.
 #[no_mangle]
 pub extern "C" fn board_used(table: Table, store: StoreId) -> BoardReply
-    ensures { λ r. ⌜ asked table r ≡ answer (called table [] (usedOf (store .0))) ⌝ }
+    ensures { λ r. ⌜ replySeen table r ≡ answer (called table [] (usedOf (store .0))) ⌝ }
 {
     reply_of(table.used(store))
 }
@@ -57,7 +57,7 @@ pub extern "C" fn board_used(table: Table, store: StoreId) -> BoardReply
 // Call 6.
 #[no_mangle]
 pub extern "C" fn board_free(table: Table, store: StoreId) -> BoardReply
-    ensures { λ r. ⌜ asked table r ≡ answer (called table [] (freeOf (store .0))) ⌝ }
+    ensures { λ r. ⌜ replySeen table r ≡ answer (called table [] (freeOf (store .0))) ⌝ }
 {
     reply_of(table.free(store))
 }
@@ -65,7 +65,7 @@ pub extern "C" fn board_free(table: Table, store: StoreId) -> BoardReply
 // Call 7.
 #[no_mangle]
 pub extern "C" fn board_find(table: Table, address: u32) -> BoardFound
-    ensures { λ r. ⌜ askedFind table r ≡ foundAnswer (called table [] (find address)) ⌝ }
+    ensures { λ r. ⌜ foundSeen table r ≡ foundAnswer (called table [] (find address)) ⌝ }
 {
     found_of(table.find(address))
 }

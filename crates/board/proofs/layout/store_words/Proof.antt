@@ -5,8 +5,6 @@ use borrow.Author.Needs.{needs}
 use Rattle.board.specs.Layout.{storeAt, LinesTo, lines-none, lines-more, lines-all}
 use Rattle.board.proofs.layout.store_words.Statement.{statement}
 use Rattle.board.proofs.layout.store_words.Tie as tie
-use Rattle.board.proofs.layout.store_words.Reads as reads
-use Rattle.board.proofs.layout.store_words.Lts as lts
 
 abbrev Inv-loop : tie.InvT-loop
 Inv-loop lines₀ i₀ word₀ lines i word = LinesTo storeAt 4 8 64 lines i word

@@ -1,5 +1,4 @@
 -- `board::questions::board_find` meets its contract: the method's, with the report as a number and the caller's table. Assumes nothing.
-use mathlib.Core.Path.{refl}
 use borrow.Author.Needs.{needs}
 use Rattle.lines.specs.Shape.{unmapped}
 use Rattle.table.specs.Table.{Sized}

@@ -8,8 +8,6 @@ use Rattle.meaning.specs.Laws.Agree.{holds-iff}
 use Rattle.board.specs.Run.{by-refused, by-stores, by-stacks}
 use Rattle.board.proofs.run.run_of.Statement.{statement}
 use Rattle.board.proofs.run.run_of.Tie as tie
-use Rattle.board.proofs.run.run_of.Reads as reads
-use Rattle.board.proofs.run.run_of.Lts as lts
 
 in-stores : (c : tie.Then2) → (runOf (c .before .before .before .args .stores) holds c .before .before .before .args .address) ≡ true
 in-stores c = sym (c .before .holds .ensures) ∙ c .if2 .taken
