@@ -1,9 +1,9 @@
 /* measure STORES [CALL]: what a call through board.h takes on a table of so many stores, each
  * nested in the one before it, with 32 threads and 31 stacks.
  *
- * For each call it prints its report and the bytes of stack that it takes below its caller: it is
- * made on a stack of its own that was painted before. With CALL it makes that one alone, so that a
- * counter of instructions can be set on the function `measured`. */
+ * For each call it prints its report and the bytes of stack that it takes in all: it is made on a
+ * stack of its own that was painted before. Linked with nothing.c, it prints the caller's share.
+ * With CALL it makes that one alone, so that a counter of instructions can be set on `measured`. */
 #define _XOPEN_SOURCE 700 /* for the painted stack */
 #include "board.h"
 
@@ -83,7 +83,6 @@ static void store_beside(void)
         report = (made); \
     }
 
-CALL(nothing, 0)
 CALL(broken_rule, board_broken_rule_on(&table))
 CALL(start, board_start_on(&table, store_area, stack_area, &root))
 CALL(ask_root, board_root_on(&table, &root))
@@ -108,7 +107,6 @@ static const struct {
     void (*prepare)(void);
     void (*call)(void);
 } calls[] = {
-    {"nothing", chain, nothing},
     {"broken_rule", chain, broken_rule},
     {"start", chain, start},
     {"root", chain, ask_root},
@@ -164,16 +162,13 @@ int main(int argc, char **argv)
         fprintf(stderr, "measure STORES [CALL]: 1 to 64 stores\n");
         return 2;
     }
-    size_t none = 0;
     for (size_t i = 0; i < sizeof calls / sizeof *calls; i++) {
         if (argc > 2 && strcmp(argv[2], calls[i].name) != 0)
             continue;
         count = (uint32_t)wanted;
         calls[i].prepare();
         size_t taken = stack_of(calls[i].call);
-        if (i == 0)
-            none = taken;
-        printf("%s %u %zu\n", calls[i].name, report, taken - none);
+        printf("%s %u %zu\n", calls[i].name, report, taken);
     }
     return 0;
 }
