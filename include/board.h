@@ -28,7 +28,7 @@
  * stack that it takes and its translation into the archive are not covered. This header is C, and
  * so are the _on functions: nothing is proved of them. That the structs here are laid out as the
  * archive's, and that the numbers mean the same, is seen by examples/vm/header.c alone, which reads
- * every field and provokes every report.
+ * every field and provokes every report but 11.
  */
 #ifndef BOARD_H
 #define BOARD_H

@@ -50,8 +50,8 @@ static void table_words(void)
     same("the last word", word, sizeof t / sizeof word);
 }
 
-/* One call for each report, and each field of what calls give back. No call gives
- * BOARD_CANNOT_SHRINK. */
+/* One call for each report but BOARD_CANNOT_SHRINK, which no call is known to give, and each field
+ * of what calls give back. */
 static void answers(void)
 {
     static uint8_t stores[256], stacks[64];
