@@ -149,10 +149,11 @@ struct board_found {
     uint32_t steps;
 };
 
-/* of the run question: the run is `length` bytes from `offset` on, in one of the two areas; at a
- * refusal all but the report is 0 */
+/* the two lent areas, by number */
 enum board_lent { BOARD_STORES = 0, BOARD_STACKS = 1 };
 
+/* of the run question: the run is `length` bytes from `offset` on in one of the areas; at a refusal
+ * all but the report is 0 */
 struct board_run {
     uint32_t report;
     uint32_t area;

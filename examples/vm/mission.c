@@ -12,7 +12,7 @@ static uint8_t stores[1024];
 static uint8_t stacks[256];
 static struct board_table table;
 
-/* The machine's own answer to a refusal is to stop the line. */
+/* Whether a call was refused, which is told. */
 static int refused(const char *what, enum board_report report)
 {
     if (report != BOARD_ACCEPTED)
@@ -90,8 +90,9 @@ int main(void)
 
     /* A request that is too large is refused, and nothing is lost. */
     uint32_t address;
-    printf("a block of 401 bytes: report %u, broken rule %" PRIu32 "\n",
-           (unsigned)board_allocate_on(&table, stores, sizeof stores, printer, 401, &address),
+    enum board_report report =
+        board_allocate_on(&table, stores, sizeof stores, printer, 401, &address);
+    printf("a block of 401 bytes: report %u, broken rule %" PRIu32 "\n", (unsigned)report,
            board_broken_rule_on(&table));
     return 0;
 }
