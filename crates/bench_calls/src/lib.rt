@@ -16,7 +16,7 @@ use table::{Answer, Found, Table};
 const MOST: u32 = 4096;
 
 // The table after a record and what is printed of it; `taken` is false where the program stops at it.
-#[derive(Drop)]
+#[derive(Clone, Copy)]
 pub struct Stepped {
     pub table: Table,
     pub taken: bool,

@@ -13,7 +13,7 @@ use table::Table;
 const LIST: usize = 57000;
 
 // A line of the run: how long its text is, whether the run ends with it, and the table and the place after it.
-#[derive(Drop)]
+#[derive(Clone, Copy)]
 pub struct Line {
     pub table: Table,
     pub place: usize,

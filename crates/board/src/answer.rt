@@ -7,7 +7,7 @@ use table::{Answer, Found, Table};
 
 // Of a change: the whole new table, the report's number and the value.
 #[repr(C)]
-#[derive(Drop)]
+#[derive(Clone, Copy)]
 pub struct BoardAnswer {
     pub table: Table,
     pub report: u32,
@@ -16,7 +16,7 @@ pub struct BoardAnswer {
 
 // Of a question: the caller's table stays as it is.
 #[repr(C)]
-#[derive(Drop)]
+#[derive(Clone, Copy)]
 pub struct BoardReply {
     pub report: u32,
     pub value: u32,
@@ -24,7 +24,7 @@ pub struct BoardReply {
 
 // Of find: the steps too.
 #[repr(C)]
-#[derive(Drop)]
+#[derive(Clone, Copy)]
 pub struct BoardFound {
     pub report: u32,
     pub value: u32,

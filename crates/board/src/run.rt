@@ -9,7 +9,7 @@ use table::Table;
 
 // `area` is 0 for that of the stores and 1 for that of the stacks.
 #[repr(C)]
-#[derive(Drop)]
+#[derive(Clone, Copy)]
 pub struct BoardRun {
     pub report: u32,
     pub area: u32,

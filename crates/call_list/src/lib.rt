@@ -7,7 +7,7 @@ ghost use Rattle.call_list.specs.Decoded.{entry_of};
 use texts::{COUNTS, FIRST_MARK, RECORD_LENGTH, SECOND_MARK};
 
 // A call with its numbers, in document 01's order, or what the program stops at.
-#[derive(Drop)]
+#[derive(Clone, Copy)]
 pub enum Record {
     Start(u32, u32, u32, u32),
     Root,

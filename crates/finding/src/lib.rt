@@ -11,7 +11,7 @@ use names::{Reply, Report, Store, StoreId};
 use stores::Stores;
 
 // What call 7 tells: its report and value, and the number of parent-to-child steps from the root to the answer.
-#[derive(Drop)]
+#[derive(Clone, Copy)]
 pub struct Found {
     pub reply: Reply,
     pub steps: u32,

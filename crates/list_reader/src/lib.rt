@@ -8,14 +8,14 @@ ghost use Rattle.list_reader.specs.Read.{after, moved_on, taken_at, taken_of};
 use call_list::{Record, decode};
 use texts::RECORD_LENGTH;
 
-#[derive(Drop)]
+#[derive(Clone, Copy)]
 pub struct Reader<'a> {
     list: &'a [u8],
     place: usize,
 }
 
 // What stood at a place, and the place after it.
-#[derive(Drop)]
+#[derive(Clone, Copy)]
 pub struct Taken {
     pub found: Record,
     pub next: usize,

@@ -7,7 +7,7 @@ use crate::ids::{StackId, StoreId, ThreadId};
 
 // A run of addresses.
 #[repr(C)]
-#[derive(Drop)]
+#[derive(Clone, Copy)]
 pub struct Area {
     pub start: u32,
     pub length: u32,
@@ -15,7 +15,7 @@ pub struct Area {
 
 // A backing store: its first address is its identifier, and its total counts the overhead.
 #[repr(C)]
-#[derive(Drop)]
+#[derive(Clone, Copy)]
 pub struct Store {
     pub id: StoreId,
     pub total: u32,
@@ -25,7 +25,7 @@ pub struct Store {
 
 // A thread with its allocation context.
 #[repr(C)]
-#[derive(Drop)]
+#[derive(Clone, Copy)]
 pub struct Thread {
     pub id: ThreadId,
     pub context: StoreId,
@@ -33,14 +33,14 @@ pub struct Thread {
 
 // A thread stack: its first address is its identifier, and its total counts the overhead.
 #[repr(C)]
-#[derive(Drop)]
+#[derive(Clone, Copy)]
 pub struct Stack {
     pub id: StackId,
     pub total: u32,
 }
 
 // The block of an allocation: its first address, and the bytes asked for.
-#[derive(Drop)]
+#[derive(Clone, Copy)]
 pub struct Block {
     pub start: u32,
     pub size: u32,

@@ -2,7 +2,7 @@
 ghost use Rattle.std.specs.Prelude.{◌≡◌};
 ghost use Rattle.names.specs.Numbers.{number_of};
 
-#[derive(Drop)]
+#[derive(Clone, Copy)]
 pub enum Report {
     Accepted,
     OutOfMemory,
@@ -23,7 +23,7 @@ pub enum Report {
 }
 
 // What a call tells: its report and its value.
-#[derive(Drop)]
+#[derive(Clone, Copy)]
 pub struct Reply {
     pub report: Report,
     pub value: u32,

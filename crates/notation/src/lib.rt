@@ -7,7 +7,7 @@ ghost use Rattle.notation.specs.Notation.{is_blank, past_blanks, stands, ends, a
 use texts::COUNTS;
 
 // What stands at a place of the text: a call, nothing more, or what is no call, with the place where it goes wrong.
-#[derive(Drop)]
+#[derive(Clone, Copy)]
 pub enum Written {
     Call(Call),
     End,
@@ -15,7 +15,7 @@ pub enum Written {
 }
 
 // A call with its numbers, 0 for those that it lacks, and the place after it.
-#[derive(Drop)]
+#[derive(Clone, Copy)]
 pub struct Call {
     pub code: u8,
     pub a: u32,
@@ -26,14 +26,14 @@ pub struct Call {
 }
 
 // A number and the place after it, or the place where it goes wrong.
-#[derive(Drop)]
+#[derive(Clone, Copy)]
 pub enum Number {
     Is(u32, usize),
     Not(usize),
 }
 
 // The value of some digits, or `ABOVE` where that is less, and the place after them.
-#[derive(Drop)]
+#[derive(Clone, Copy)]
 pub struct Digits {
     pub value: u64,
     pub next: usize,

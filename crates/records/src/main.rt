@@ -7,7 +7,7 @@ use libc::{STDERR_FILENO, STDIN_FILENO, STDOUT_FILENO};
 use translation::Outcome;
 
 // How many bytes have been read, and whether that is all there is.
-#[derive(Drop)]
+#[derive(Clone, Copy)]
 struct Input {
     length: usize,
     whole: bool,

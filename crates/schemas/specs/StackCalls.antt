@@ -1,6 +1,6 @@
 -- Calls 12 and 13 meet 000's schemas: make stack, destroy stack. Assumes nothing.
 use Rattle.std.specs.Prelude.{true, false, not, List, ◌≡◌, refl, ℕ, ◌+◌, ◌<◌, ◌≤◌, eqb}
-use Rattle.std.proofs.Math.Logic.{Iff·symm}
+use Rattle.std.proofs.Math.Logic.Iff
 use Rattle.std.proofs.Common.{inl, inr, ⊎_elim, sym, ◌∙◌, ap, arith, ltb-true, eqb-true, ne_eqb}
 use Rattle.std.proofs.Math.Decide.{dec_lt}
 use Rattle.std.proofs.lemmas.Bool.{eqb-false}
@@ -98,7 +98,7 @@ module _ (m : Model) (sound : Sound m) where
 
     made_stacks : SameStacks ((stacks_of m).stacks ⊕ new.start ⟼ stack_run new) (stacks_of made).stacks
     made_stacks = (
-      λ k. Iff·symm (has_insert_iff stack_name new ks k),
+      λ k. Iff.symm (has_insert_iff stack_name new ks k),
       λ k u. picked (λ r. cells (stack_run (stack_of (insert stack_name new ks) k)) ≐ cells r) k new.start
           (λ e. rw (e, at_insert_new stack_name no_such_stack new ks (new_name m sound n room)) (λ a. (λ i. i, λ i. i)))
           (λ d. rw (at_insert_old stack_name no_such_stack new ks k (λ e. d (sym e))) (λ a. (λ i. i, λ i. i))),
@@ -153,7 +153,7 @@ module _ (m : Model) (sound : Sound m) where
 
     left_stacks : SameStacks (⟨ k ⟩ ⩤ (stacks_of m).stacks) (stacks_of left).stacks
     left_stacks = (
-      λ j. Iff·symm (has_remove_iff stack_name k ks j),
+      λ j. Iff.symm (has_remove_iff stack_name k ks j),
       λ j u. rw (at_remove stack_name no_such_stack k ks j u.1) (λ a. (λ i. i, λ i. i)),
     )
 

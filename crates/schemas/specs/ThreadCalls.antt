@@ -1,6 +1,6 @@
 -- Calls 3, 14 and 15 meet 000's schemas: set context, add thread, remove thread. Assumes nothing.
 use Rattle.std.specs.Prelude.{false, List, ◌⊎◌, ◌≡◌, refl, ℕ}
-use Rattle.std.proofs.Math.Logic.{Iff·symm}
+use Rattle.std.proofs.Math.Logic.Iff
 use Rattle.std.proofs.Common.{inl, inr, ⊎_elim, sym, ◌∙◌, ap, arith, eq-eqb, ne_eqb}
 use Rattle.lists.specs.Keyed.{has, at, insert, remove}
 use Rattle.lists.specs.Tests.{tested, not_iff, reflect}
@@ -43,7 +43,7 @@ module _ (m : Model) (t s : ℕ) where
   new_contexts : has thread_name ts t ≡ false → SameThreads set (contexts_of (with_threads m (insert thread_name (record { identifier = t; context = s }) ts)))
   new_contexts h =
       let new : Thread = record { identifier = t; context = s } in (
-        λ k. Iff·symm (has_insert_iff thread_name new ts k),
+        λ k. Iff.symm (has_insert_iff thread_name new ts k),
         λ k u. picked (λ c. context_in (insert thread_name new ts) k ≡ c) k t
             (λ e. rw e (ap (λ x. x.context) (at_insert_new thread_name no_such_thread new ts h)))
             (λ d. ap (λ x. x.context) (at_insert_old thread_name no_such_thread new ts k (λ e. d (sym e)))),
@@ -57,7 +57,7 @@ module _ (m : Model) (t s : ℕ) where
 
 removed_contexts : (m : Model) (t : ℕ) → SameThreads (⟨ t ⟩ ⩤ contexts_of m) (contexts_of (with_threads m (remove thread_name t m.threads)))
 removed_contexts m t =
-    (λ k. Iff·symm (has_remove_iff thread_name t m.threads k), λ k u. ap (λ x. x.context) (at_remove thread_name no_such_thread t m.threads k u.1))
+    (λ k. Iff.symm (has_remove_iff thread_name t m.threads k), λ k u. ap (λ x. x.context) (at_remove thread_name no_such_thread t m.threads k u.1))
 
 -- only threads change
 only_threads : (m : Model) (ts : List Thread) → Sound m → Sound (with_threads m ts) → {f : Partial ℕ} → SameThreads f (contexts_of (with_threads m ts))

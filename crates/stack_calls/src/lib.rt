@@ -9,7 +9,7 @@ use names::{Area, Reply, Report, Stack, StackId, TOO_HIGH};
 use stacks::Stacks;
 
 // The stacks and the free run after a call, and what it tells.
-#[derive(Drop)]
+#[derive(Clone, Copy)]
 pub struct Piled {
     pub stacks: Stacks,
     pub free: Area,

@@ -12,7 +12,7 @@ ghost use Rattle.stacks.specs.Stacks.{view, back, zeros, is_zeros, stack_line, r
 use names::{Stack, StackId};
 
 #[repr(C)]
-#[derive(Drop)]
+#[derive(Clone, Copy)]
 pub struct Stacks {
     pub count: u32,
     pub lines: [Stack; 32],

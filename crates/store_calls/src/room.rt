@@ -5,7 +5,7 @@ use names::{Reply, Report};
 use stores::Stores;
 
 // The stores after a call, and what it tells.
-#[derive(Drop)]
+#[derive(Clone, Copy)]
 pub struct Roomed {
     pub stores: Stores,
     pub reply: Reply,

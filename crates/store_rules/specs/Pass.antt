@@ -6,7 +6,7 @@ use mathlib.Core.List.Memᴰ.{head as here}
 use mathlib.Core.List.Memᴰ.{not-nil as nowhere}
 use mathlib.Core.List.Memᴰ.{tail as there}
 use mathlib.Core.List.{List, [], ◌∷◌}
-use Rattle.std.proofs.Math.Logic.{Iff·rfl}
+use Rattle.std.proofs.Math.Logic.Iff
 use Rattle.std.proofs.Common.{inl, inr, ⊎_elim, sym, ◌∙◌, arith, eqb-true, eq-eqb, leb-true, le-leb}
 use Rattle.std.proofs.Math.Path.{ap}
 use Rattle.std.proofs.Math.Decide.{dec_le}
@@ -161,7 +161,7 @@ module _ (ss : List Store) (hung : stores_hang ss ≡ true) where
         (implies_iff (eqb c.parent q.start) (whole c inside used_part q)).1 (λ e.
         let s : store_of ss c.parent ≡ q = ap (store_of ss) (eqb-true c.parent q.start e) ∙ member_at store_name no_such_store ss rises i in
         rw s at (p.in_parent c m)))),
-    (all_two_iff siblings_apart (λ c d. siblings_apart c d ≡ true) (λ c d. Iff·rfl) (rest ss)).1
+    (all_two_iff siblings_apart (λ c d. siblings_apart c d ≡ true) (λ c d. Iff.rfl) (rest ss)).1
         (by_key_two store_name (λ c d. siblings_apart c d ≡ true) (rest ss) (rest_rises ss rises)
         (λ c d m n k. order_apart c d (two_by_key store_name InOrder (rest ss) (rest_rises ss rises) p.ordered m n k))),
   )
@@ -169,7 +169,7 @@ module _ (ss : List Store) (hung : stores_hang ss ≡ true) where
   rule_pass : all (λ p. all (child_inside p) (rest ss)) ss ≡ true → all_two siblings_apart (rest ss) ≡ true → Passed ss [] (rest ss)
   unfolding lies
   rule_pass a b =
-      let two = (all_two_iff siblings_apart (λ c d. siblings_apart c d ≡ true) (λ c d. Iff·rfl) (rest ss)).0 b in
+      let two = (all_two_iff siblings_apart (λ c d. siblings_apart c d ≡ true) (λ c d. Iff.rfl) (rest ss)).0 b in
       record {
         in_parent = λ c m.
             let q = store_of ss c.parent in

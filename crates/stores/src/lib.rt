@@ -16,7 +16,7 @@ ghost use Rattle.stores.specs.Stores.{view, back, zeros, is_zeros, store_line, r
 use names::{Store, StoreId};
 
 #[repr(C)]
-#[derive(Drop)]
+#[derive(Clone, Copy)]
 pub struct Stores {
     pub count: u32,
     pub lines: [Store; 64],

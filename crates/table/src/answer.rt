@@ -10,7 +10,7 @@ use stack_calls::Piled;
 use store_calls::Roomed;
 use thread_calls::Placed;
 
-#[derive(Drop)]
+#[derive(Clone, Copy)]
 pub struct Answer {
     pub table: Table,
     pub report: Report,
@@ -18,7 +18,7 @@ pub struct Answer {
 }
 
 // What find hands back: the number of parent-to-child steps from the root to the answer too.
-#[derive(Drop)]
+#[derive(Clone, Copy)]
 pub struct Found {
     pub table: Table,
     pub report: Report,

@@ -18,7 +18,7 @@ use threads::Threads;
 
 // The two areas.
 #[repr(C)]
-#[derive(Drop)]
+#[derive(Clone, Copy)]
 pub struct Areas {
     pub stores: Area,
     pub stacks: Area,
@@ -26,7 +26,7 @@ pub struct Areas {
 
 // The areas, the free run of the stack area, and the three lists.
 #[repr(C)]
-#[derive(Drop)]
+#[derive(Clone, Copy)]
 pub struct Table {
     pub areas: Areas,
     pub free: Area,

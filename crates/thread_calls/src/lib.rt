@@ -12,7 +12,7 @@ use stores::Stores;
 use threads::Threads;
 
 // The threads after a call, and what it tells.
-#[derive(Drop)]
+#[derive(Clone, Copy)]
 pub struct Placed {
     pub threads: Threads,
     pub reply: Reply,

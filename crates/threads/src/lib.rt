@@ -13,7 +13,7 @@ ghost use Rattle.threads.specs.Threads.{view, back, zeros, is_zeros, thread_line
 use names::{StoreId, Thread, ThreadId};
 
 #[repr(C)]
-#[derive(Drop)]
+#[derive(Clone, Copy)]
 pub struct Threads {
     pub count: u32,
     pub lines: [Thread; 32],

@@ -5,7 +5,7 @@ ghost use Rattle.translation.specs.Translation.{translated};
 use notation::Written;
 
 // As many bytes of records; or more calls than there is room for; or what is no call, and the place where it goes wrong.
-#[derive(Drop)]
+#[derive(Clone, Copy)]
 pub enum Outcome {
     Records(usize),
     TooMany,

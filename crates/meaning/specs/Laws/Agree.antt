@@ -1,7 +1,7 @@
 -- Each test of Rules.antt decides its proposition of Facts.antt. Assumes nothing.
 use Rattle.std.specs.Prelude.{true, false, ◌↔◌, ◌≡◌, refl, ℕ, max}
 use mathlib.Core.List.{List, [], ◌∷◌, nil≢cons, head-eq_of_cons-eq}
-use Rattle.std.proofs.Math.Logic.{Iff·rfl}
+use Rattle.std.proofs.Math.Logic.Iff
 use Rattle.std.proofs.Common.{sym, ◌∙◌, arith}
 use Rattle.std.proofs.Math.Decide.{ℕ_discrete}
 use Rattle.lists.specs.Lists.{all_two, AllTwo}
@@ -14,11 +14,11 @@ use Rattle.meaning.specs.Facts.{◌Holds◌, ◌Inside◌, ◌ApartFrom◌, Rule
 
 pub holds_iff : (r : Run) (a : ℕ) → ((r holds a) ≡ true) ↔ r Holds a
 unfolding ◌holds◌
-holds_iff r a = simp reflect Iff·rfl
+holds_iff r a = simp reflect Iff.rfl
 
 pub inside_iff : (r s : Run) → ((r inside s) ≡ true) ↔ r Inside s
 unfolding ◌inside◌
-inside_iff r s = simp reflect Iff·rfl
+inside_iff r s = simp reflect Iff.rfl
 
 -- the address that two runs share, if they do, is the later of their starts
 pub apart_iff : (r s : Run) → ((r apart_from s) ≡ true) ↔ r ApartFrom s
@@ -62,7 +62,7 @@ rule3_agrees m = (
 )
 
 siblings_iff : (c d : Store) → (siblings_apart c d ≡ true) ↔ (c.parent ≡ d.parent → whole c ApartFrom whole d)
-siblings_iff c d = simp asks Iff·rfl
+siblings_iff c d = simp asks Iff.rfl
 
 siblings_all : (ss : List Store) → (all_two siblings_apart ss ≡ true) ↔ AllTwo (λ c d. c.parent ≡ d.parent → whole c ApartFrom whole d) ss
 siblings_all ss = all_two_iff siblings_apart _ siblings_iff ss
