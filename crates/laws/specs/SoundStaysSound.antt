@@ -20,4 +20,4 @@ sound_stays_sound m bs c sound = after_step Sound m bs c (change_sound m bs c) s
 pub sound_stays_sound_after : (m : Model) (bs : Bytes) (cs : List Call) → Sound m → Sound (after m bs cs)
 unfolding after
 sound_stays_sound_after m bs [] sound = sound
-sound_stays_sound_after m bs (c ∷ cs) sound = sound_stays_sound_after _ _ cs (sound_stays_sound m bs c sound)
+sound_stays_sound_after m bs (c ∷ cs) sound = sound_stays_sound_after (step m bs c).model (step m bs c).bytes cs (sound_stays_sound m bs c sound)

@@ -96,4 +96,4 @@ stayed_accepted S (c ∷ cs) m bs l i = elim (tested (stays S m bs c)) [
 pub after_last : (m : Model) (bs : Bytes) (cs : List Call) (c : Call) → after m bs (cs ++ (c ∷ [])) ≡ (step (after m bs cs) (bytes_after m bs cs) c).model
 unfolding after bytes_after
 after_last m bs [] c = refl
-after_last m bs (d ∷ cs) c = after_last _ _ cs c
+after_last m bs (d ∷ cs) c = after_last (step m bs d).model (step m bs d).bytes cs c
