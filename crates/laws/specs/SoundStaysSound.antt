@@ -4,7 +4,7 @@ use Rattle.meaning.specs.Model.{Model, Bytes}
 use Rattle.meaning.specs.Facts.{Sound}
 use Rattle.meaning.specs.Calls.{Call, step}
 use Rattle.meaning.specs.CallList.{after}
-use Rattle.meaning.specs.Laws.Step.{step_accepted}
+use Rattle.meaning.proofs.Laws.Step.{step_accepted}
 use Rattle.laws.specs.AnyStep.{after_step}
 use Rattle.laws.specs.EachCall.{change_sound}
 

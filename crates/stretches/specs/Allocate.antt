@@ -9,11 +9,11 @@ use Rattle.meaning.specs.Reports.{context_store}
 use Rattle.meaning.specs.Facts.{◌Inside◌, Sound}
 use Rattle.meaning.specs.Changes.{line_with_used}
 use Rattle.meaning.specs.Calls.{allocate, checks, change, all_checks, step}
-use Rattle.meaning.specs.Laws.Nested.{named, nested_agrees}
-use Rattle.meaning.specs.Laws.Step.{accepted_exact}
+use Rattle.meaning.proofs.Laws.Nested.{named, nested_agrees}
+use Rattle.meaning.proofs.Laws.Step.{accepted_exact}
 use Rattle.laws.specs.ByName.{Listed, by_name}
 use Rattle.laws.specs.Geometry.{nested_inside}
-use Rattle.meaning.specs.Laws.Within.{context_listed}
+use Rattle.meaning.proofs.Laws.Within.{context_listed}
 use Rattle.stretches.specs.Stretch.{within, moved}
 use Rattle.stretches.specs.Bytes.{zeroed_alike, zeroed_unseen}
 use Rattle.stretches.specs.Follows.{Same, Follows, Unseen}

@@ -8,7 +8,7 @@ use Rattle.meaning.specs.Model.{Model, Bytes, whole, listed, store_of}
 use Rattle.meaning.specs.Facts.{Sound}
 use Rattle.meaning.specs.Calls.{Call, Outcome, step}
 use Rattle.meaning.specs.CallList.{Line, after, told, bytes_after}
-use Rattle.meaning.specs.Laws.Step.{accepted_exact, step_accepted}
+use Rattle.meaning.proofs.Laws.Step.{accepted_exact, step_accepted}
 use Rattle.laws.specs.ByName.{Listed}
 use Rattle.laws.specs.SoundStaysSound.{sound_stays_sound}
 use Rattle.stretches.specs.Stretch.{question, is_accepted, stays, moved, stayed, the_rest, starts_or_resizes, lasts}

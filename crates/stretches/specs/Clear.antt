@@ -16,11 +16,11 @@ use Rattle.meaning.specs.Reports.{in_use}
 use Rattle.meaning.specs.Facts.{Sound}
 use Rattle.meaning.specs.Changes.{line_with_used, cleared}
 use Rattle.meaning.specs.Calls.{clear, checks, change, all_checks, step}
-use Rattle.meaning.specs.Laws.Nested.{nested_agrees}
-use Rattle.meaning.specs.Laws.Step.{accepted_exact, step_accepted}
+use Rattle.meaning.proofs.Laws.Nested.{nested_agrees}
+use Rattle.meaning.proofs.Laws.Step.{accepted_exact, step_accepted}
 use Rattle.laws.specs.ByName.{Listed}
 use Rattle.laws.specs.Nesting.{nested_transitive}
-use Rattle.meaning.specs.Laws.Within.{context_listed}
+use Rattle.meaning.proofs.Laws.Within.{context_listed}
 use Rattle.stretches.specs.Stretch.{within, instead, moved}
 use Rattle.stretches.specs.Cleared.{nested_cleared, not_in_itself}
 use Rattle.stretches.specs.Without.{move_line, moved_threads, without, remade, moved_alike, instead_not_nested, without_empty}

@@ -9,8 +9,8 @@ use Rattle.lists.specs.Tests.{never}
 use Rattle.meaning.specs.Model.{Model, Bytes, whole, store_of, context_in}
 use Rattle.meaning.specs.Facts.{Sound}
 use Rattle.meaning.specs.Calls.{Call, start, root, context_of, set_context, total_of, used_of, free_of, find, allocate, make_store, clear, resize, make_stack, destroy_stack, add_thread, remove_thread, code, change, step}
-use Rattle.meaning.specs.Laws.Nested.{named}
-use Rattle.meaning.specs.Laws.Step.{step_accepted, step_refused}
+use Rattle.meaning.proofs.Laws.Nested.{named}
+use Rattle.meaning.proofs.Laws.Step.{step_accepted, step_refused}
 use Rattle.laws.specs.ByName.{Listed}
 use Rattle.laws.specs.Fixed.{areas_stay}
 use Rattle.laws.specs.Stays.{untouched_stays}

@@ -7,9 +7,9 @@ use Rattle.meaning.specs.Model.{Model, Bytes, whole, store_of}
 use Rattle.meaning.specs.Facts.{Sound}
 use Rattle.meaning.specs.Rules.{sound}
 use Rattle.meaning.specs.Calls.{Call, Outcome, code, checks, change, all_checks, step}
-use Rattle.meaning.specs.Laws.Agree.{sound_agrees}
+use Rattle.meaning.proofs.Laws.Agree.{sound_agrees}
 use Rattle.meaning.specs.Reports.{NoneHolds}
-use Rattle.meaning.specs.Laws.Step.{accepted_exact}
+use Rattle.meaning.proofs.Laws.Step.{accepted_exact}
 use Rattle.stretches.specs.Stretch.{moved, SameOutside}
 use Rattle.stretches.specs.Without.{without}
 

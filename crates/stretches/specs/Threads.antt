@@ -14,7 +14,7 @@ use Rattle.meaning.specs.Model.{Store, Thread, Model, Bytes, thread_name}
 use Rattle.meaning.specs.Facts.{Sound}
 use Rattle.meaning.specs.Changes.{line_with_context, with_context, placed, cleared}
 use Rattle.meaning.specs.Calls.{set_context, add_thread, remove_thread, checks, change, all_checks, step}
-use Rattle.meaning.specs.Laws.Step.{accepted_exact}
+use Rattle.meaning.proofs.Laws.Step.{accepted_exact}
 use Rattle.laws.specs.ByName.{Listed}
 use Rattle.stretches.specs.Stretch.{instead, moved}
 use Rattle.stretches.specs.Cleared.{stays_listed}

@@ -15,7 +15,7 @@ use Rattle.meaning.specs.Nesting.{nested}
 use Rattle.meaning.specs.Reports.{in_use}
 use Rattle.meaning.specs.Facts.{Sound}
 use Rattle.meaning.specs.Changes.{line_with_used, cleared, with_stores, with_threads}
-use Rattle.meaning.specs.Laws.Nested.{nested_agrees}
+use Rattle.meaning.proofs.Laws.Nested.{nested_agrees}
 use Rattle.laws.specs.ByName.{Listed, used_in, by_name}
 use Rattle.laws.specs.Frames.{sound_with_threads}
 use Rattle.laws.specs.Geometry.{nested_inside}
