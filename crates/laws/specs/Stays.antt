@@ -2,7 +2,7 @@
 use Rattle.std.specs.Prelude.{Bool, true, false, List, map, ◌≡◌, refl, ℕ, ◌+◌}
 use Rattle.std.proofs.Common.{inl, inr, ⊎_elim, sym, ◌∙◌, ap, arith, ne_eqb}
 use Rattle.std.proofs.lemmas.Bool.{eqb-false}
-use Rattle.lists.specs.Keyed.{has, at, insert, remove}
+use Rattle.lists.specs.Keyed.{has, insert, remove}
 use Rattle.lists.specs.Tests.{tested, never, same_test, reflect}
 use Rattle.lists.specs.KeyedChanges.{has_insert, at_insert_old, has_map, at_map_same, has_remove_iff, at_remove}
 use Rattle.names.specs.Overhead.{store_taken}

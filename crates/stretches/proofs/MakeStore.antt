@@ -20,11 +20,11 @@ use Rattle.laws.specs.StoreCalls.{allocate_sound, make_store_sound}
 use Rattle.meaning.proofs.Laws.Within.{context_listed}
 use Rattle.stretches.specs.Stretch.{within, moved}
 use Rattle.stretches.specs.Without.{without}
-use Rattle.stretches.specs.Bytes.{same_bytes}
+use Rattle.stretches.proofs.Bytes.{same_bytes}
 use Rattle.stretches.specs.Follows.{Same, Follows, Unseen}
-use Rattle.stretches.specs.Lines.{nested_lines, lines_seen, lines_unseen, used_swap, used_undone}
-use Rattle.stretches.specs.Inserted.{insert_seen, insert_unseen}
-use Rattle.stretches.specs.Contexts.{out_of, threads_same, context_store_same}
+use Rattle.stretches.proofs.Lines.{nested_lines, lines_seen, lines_unseen, used_swap, used_undone}
+use Rattle.stretches.proofs.Inserted.{insert_seen, insert_unseen}
+use Rattle.stretches.proofs.Contexts.{out_of, threads_same, context_store_same}
 
 -- no store more without what is in S
 stores_fewer : (S : ℕ) (m : Model) → length (without S m).stores ≤ length m.stores

@@ -18,7 +18,8 @@ use Rattle.laws.specs.ByName.{Listed}
 use Rattle.laws.specs.Nesting.{nested_transitive, inner_listed, outer_listed}
 use Rattle.laws.specs.StoreChanges.{not_in}
 use Rattle.stretches.specs.Stretch.{within}
-use Rattle.stretches.specs.Without.{without, remade, moved_alike}
+use Rattle.stretches.specs.Without.{without}
+use Rattle.stretches.proofs.Without.{remade, moved_alike}
 
 module _ (m : Model) (sound : Sound m) (new : Store) (fresh : listed m.stores new.start ≡ false) (lower : new.parent < new.start)
     (more-sound : Sound (with_stores m (insert store_name new m.stores))) where

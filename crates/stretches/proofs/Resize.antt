@@ -21,12 +21,12 @@ use Rattle.laws.specs.ByName.{Listed, total_in, by_name, root_start}
 use Rattle.laws.specs.Nesting.{nested_transitive, parent_of_nested}
 use Rattle.laws.specs.StoreChanges.{not_in, after_clear}
 use Rattle.stretches.specs.Stretch.{within, moved}
-use Rattle.stretches.specs.Cleared.{stays_listed, root_left}
+use Rattle.stretches.proofs.Cleared.{stays_listed, root_left}
 use Rattle.stretches.specs.Without.{without}
-use Rattle.stretches.specs.Bytes.{same_bytes}
+use Rattle.stretches.proofs.Bytes.{same_bytes}
 use Rattle.stretches.specs.Follows.{Same, Follows, Unseen}
-use Rattle.stretches.specs.Lines.{lines_seen, lines_unseen, used_swap, used_undone}
-use Rattle.stretches.specs.Contexts.{out_of}
+use Rattle.stretches.proofs.Lines.{lines_seen, lines_unseen, used_swap, used_undone}
+use Rattle.stretches.proofs.Contexts.{out_of}
 
 -- ---- the parent of a nested store
 
