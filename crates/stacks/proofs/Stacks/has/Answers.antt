@@ -1,0 +1,15 @@
+-- `Stacks::has` meets its contract. Assumes nothing.
+use mathlib.Core.Path.{◌≡◌}
+use lib.ListN.{length}
+use Rattle.lines.specs.Shape.{unmapped}
+use Rattle.lines.specs.Lookup.{has_found}
+use Rattle.meaning.specs.Model.{stack_name}
+use Rattle.stacks.specs.Stacks.{stack_line, reading}
+use Rattle.std.proofs.Common.{rules}
+use Rattle.stacks.proofs.Stacks.has.Goals as goal
+
+pub returns : goal.returns
+unfolding reading
+returns c =
+    let long : length c.args.self.lines ≡ 32 = search (rules, unmapped) in
+    has_found stack_line _ _ _ long c.in_use-n.ensures stack_name _ _ c.place_of.ensures

@@ -1,0 +1,13 @@
+use Prim.Native.Nat.{◌≤◌, ◌-◌}
+use mathlib.Core.Path.{◌≡◌}
+use lib.ListN.{length, drop}
+use Rattle.lists.specs.Lists.{all}
+use Rattle.lines.specs.Shape.{blank}
+use Rattle.stores.specs.Stores.{is_zeros, store_line}
+use Rattle.stores.proofs.zeros_from.Given as goal
+
+abbrev pub invariant-loop-i : goal.invariant-loop-i
+invariant-loop-i l = (l.i ≤ 64) × (length l.lines ≡ 64) × (blank store_line l.n l.lines ≡ all is_zeros (drop l.i l.lines))
+
+abbrev pub decreases-loop-i : goal.decreases-loop-i
+decreases-loop-i l = 64 - l.i

@@ -1,0 +1,14 @@
+-- `thread_calls::context` meets its contract. Assumes nothing.
+use mathlib.Core.Path.{sym, ◌∙◌}
+use Rattle.meaning.specs.Reports.{first_report}
+use Rattle.meaning.specs.Calls.{checks, change, row}
+use Rattle.meaning.specs.Parts.{replied}
+use Rattle.thread_calls.proofs.context.Goals as goal
+
+pub returns-then-not-has : goal.returns-then-not-has
+unfolding replied row checks change first_report
+returns-then-not-has c = rw (c.refused.ensures, sym c.has.ensures ∙ c.if-not-has.true)
+
+pub returns : goal.returns
+unfolding replied row checks change first_report
+returns c = rw (c.accepted.ensures, sym c.has.ensures ∙ c.if-not-has.false, c.context-store.ensures)

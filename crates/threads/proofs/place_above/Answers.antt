@@ -1,0 +1,18 @@
+-- `threads::place_above` meets its contract: a search from the front. Assumes nothing.
+use Prim.Native.Nat.{◌-◌}
+use borrow.Author.Tests.{lt-ltb, le-ltb}
+use Rattle.lines.specs.Search.{seek_hit, seek_miss, seek_end}
+use Rattle.threads.specs.Threads.{thread_line}
+use Rattle.std.proofs.Common.{rules}
+use Rattle.threads.proofs.place_above.Goals as goal
+
+pub returns-then-id-k : goal.returns-then-id-k
+returns-then-id-k c = let l = c.loop-i in
+    seek_hit thread_line _ _ _ (search rules) l.i (search rules) (lt-ltb _ _ c.if-id-k.true) l.invariant.3
+
+pub loop-i-preserved : goal.loop-i-preserved
+loop-i-preserved c = let l = c.loop-i in
+    (search rules, search rules, search rules, seek_miss thread_line _ _ _ (search rules) l.i (search rules) (le-ltb _ _ c.if-id-k.false) l.invariant.3)
+
+pub returns : goal.returns
+returns c = let l = c.loop-i in seek_end thread_line _ _ _ (search rules) l.i (search rules) l.invariant.3
