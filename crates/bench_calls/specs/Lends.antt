@@ -8,8 +8,8 @@ use Rattle.lists.specs.Tests.{tested, reflect}
 use Rattle.meaning.specs.Model.{Run, Model, Bytes}
 use Rattle.meaning.specs.Reports.{◌when◌, first_report, too_small}
 use Rattle.meaning.specs.Calls.{Call, Outcome, start, root, context_of, set_context, total_of, used_of, free_of, find, allocate, make_store, clear, resize, make_stack, destroy_stack, add_thread, remove_thread, code, change, step}
-use Rattle.meaning.specs.Laws.Step.{given_none, step_accepted, step_refused}
-use Rattle.meaning.specs.Laws.Bytes.{zeroed_length}
+use Rattle.meaning.proofs.Laws.Step.{given_none, step_accepted, step_refused}
+use Rattle.meaning.proofs.Laws.Bytes.{zeroed_length}
 use Rattle.laws.specs.Fixed.{areas_stay}
 use Rattle.table.specs.declared.Table.{Table}
 use Rattle.table.specs.Table.{reading, written, zero_table, sound_table}

@@ -4,7 +4,8 @@ use Rattle.std.proofs.Common.{inl, inr, sym, ◌∙◌, ap}
 use Rattle.lists.specs.Tests.{tested, and_iff, or_false_iff}
 use Rattle.meaning.specs.Rules.{sound}
 use Rattle.meaning.specs.Calls.{Call, code, find, step}
-use Rattle.meaning.specs.Laws.Step.{changes_model, question_keeps_model}
+use Rattle.meaning.specs.Laws.Step.{changes_model}
+use Rattle.meaning.proofs.Laws.Step.{question_keeps_model}
 use Rattle.table.specs.declared.Table.{Table}
 use Rattle.table.specs.declared.answer.Answer.{Answer}
 use Rattle.table.specs.declared.answer.Found.{Found}

@@ -21,10 +21,10 @@ use Rattle.meaning.specs.Nesting.{Nested, parent_in, depth, store_holding}
 use Rattle.meaning.specs.Facts.{◌Holds◌, Sound}
 use Rattle.meaning.specs.Reports.{first_report}
 use Rattle.meaning.specs.Calls.{find, found, checks, change, row, step}
-use Rattle.meaning.specs.Laws.Agree.{holds_iff, sound_agrees}
-use Rattle.meaning.specs.Laws.Nested.{links_top, named, link_child, root_listed, root_own_parent}
-use Rattle.meaning.specs.Laws.Step.{sound_row}
-use Rattle.meaning.specs.Laws.Find.{find_right}
+use Rattle.meaning.proofs.Laws.Agree.{holds_iff, sound_agrees}
+use Rattle.meaning.proofs.Laws.Nested.{links_top, named, link_child, root_listed, root_own_parent}
+use Rattle.meaning.proofs.Laws.Step.{sound_row}
+use Rattle.meaning.proofs.Laws.Find.{find_right}
 use Rattle.laws.specs.ByName.{Listed, ByName, by_name, root_start, other_line}
 use Rattle.laws.specs.Nesting.{nested_below, parent_of_nested}
 use Rattle.laws.specs.Geometry.{holders_nested}

@@ -16,7 +16,7 @@ use Rattle.meaning.specs.Model.{Run, Store, Thread, Model, store_name, listed, n
 use Rattle.meaning.specs.Nesting.{parent_in}
 use Rattle.meaning.specs.Facts.{Rule2, Rule3, Rule4, Sound}
 use Rattle.meaning.specs.Changes.{with_stores}
-use Rattle.meaning.specs.Laws.Nested.{named, root_or_other, root_listed, root_own_parent}
+use Rattle.meaning.proofs.Laws.Nested.{named, root_or_other, root_listed, root_own_parent}
 use Rattle.laws.specs.Frames.{sound_with_stores}
 
 -- a store of this name is listed

@@ -12,9 +12,9 @@ use Rattle.meaning.specs.Model.{Store, Model, Bytes, whole, store_name, no_such_
 use Rattle.meaning.specs.Nesting.{Child, Nested, child, in_child, parent_in, depth}
 use Rattle.meaning.specs.Facts.{◌Holds◌, Sound}
 use Rattle.meaning.specs.Calls.{find, step}
-use Rattle.meaning.specs.Laws.Nested.{links_top, links_up, named, child_link, link_child}
-use Rattle.meaning.specs.Laws.Step.{accepted_sound}
-use Rattle.meaning.specs.Laws.Find.{find_right}
+use Rattle.meaning.proofs.Laws.Nested.{links_top, links_up, named, child_link, link_child}
+use Rattle.meaning.proofs.Laws.Step.{accepted_sound}
+use Rattle.meaning.proofs.Laws.Find.{find_right}
 use Rattle.laws.specs.ByName.{Listed, ByName, by_name}
 use Rattle.laws.specs.Geometry.{holders_nested}
 

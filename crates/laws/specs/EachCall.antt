@@ -7,9 +7,9 @@ use Rattle.meaning.specs.Model.{Model, Bytes, context_in}
 use Rattle.meaning.specs.Nesting.{parent_in}
 use Rattle.meaning.specs.Facts.{Sound}
 use Rattle.meaning.specs.Calls.{Call, start, root, context_of, set_context, total_of, used_of, free_of, find, allocate, make_store, clear, resize, make_stack, destroy_stack, add_thread, remove_thread, checks, change, all_checks, step}
-use Rattle.meaning.specs.Laws.Nested.{named}
-use Rattle.meaning.specs.Laws.Step.{accepted_exact, accepted_sound}
-use Rattle.meaning.specs.Laws.Within.{context_listed}
+use Rattle.meaning.proofs.Laws.Nested.{named}
+use Rattle.meaning.proofs.Laws.Step.{accepted_exact, accepted_sound}
+use Rattle.meaning.proofs.Laws.Within.{context_listed}
 use Rattle.laws.specs.Start.{start_sound}
 use Rattle.laws.specs.ThreadCalls.{set_context_sound, add_thread_sound, remove_thread_sound}
 use Rattle.laws.specs.StackCalls.{make_stack_sound, destroy_stack_sound}

@@ -10,7 +10,7 @@ use Rattle.lists.specs.KeyedChanges.{insert_length}
 use Rattle.meaning.specs.Model.{Run, Thread, Model, Bytes, store_name, thread_name, stack_name}
 use Rattle.meaning.specs.Changes.{placed, started}
 use Rattle.meaning.specs.Calls.{Call, start, root, context_of, set_context, total_of, used_of, free_of, find, allocate, make_store, clear, resize, make_stack, destroy_stack, add_thread, remove_thread, checks, change, all_checks, step}
-use Rattle.meaning.specs.Laws.Step.{accepted_exact}
+use Rattle.meaning.proofs.Laws.Step.{accepted_exact}
 use Rattle.laws.specs.AnyStep.{after_step}
 
 -- each list is at most as long as its limit, which has room for the root

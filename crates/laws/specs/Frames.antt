@@ -4,7 +4,7 @@ use Rattle.lists.specs.Keyed.{Has}
 use Rattle.lists.specs.Lists.{◌∈◌}
 use Rattle.meaning.specs.Model.{Run, Store, Thread, Stack, Model, store_name}
 use Rattle.meaning.specs.Facts.{Rule2, Rule3, Rule4, Rule5, Rule6, Rule7, Sound}
-use Rattle.meaning.specs.Laws.Agree.{rule1_agrees, rule2_agrees, rule3_agrees, rule4_agrees, rule6_agrees, rule5_agrees, rule7_agrees}
+use Rattle.meaning.proofs.Laws.Agree.{rule1_agrees, rule2_agrees, rule3_agrees, rule4_agrees, rule6_agrees, rule5_agrees, rule7_agrees}
 use Rattle.meaning.specs.Changes.{with_stores, with_threads, with_stacks}
 
 module _ (m : Model) (sound : Sound m) where

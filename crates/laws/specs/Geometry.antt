@@ -7,7 +7,7 @@ use Rattle.names.specs.Overhead.{store_overhead}
 use Rattle.meaning.specs.Model.{Store, Model, whole, used_part, free_part, free, listed, store_of}
 use Rattle.meaning.specs.Nesting.{Child, Nested, child, in_child, parent_in}
 use Rattle.meaning.specs.Facts.{◌Holds◌, ◌Inside◌, ◌ApartFrom◌, Sound}
-use Rattle.meaning.specs.Laws.Nested.{named, child_link, link_child}
+use Rattle.meaning.proofs.Laws.Nested.{named, child_link, link_child}
 use Rattle.laws.specs.ByName.{Listed, total_in, used_in, ByName, by_name}
 use Rattle.laws.specs.Nesting.{nested_transitive, nested_below, inner_listed, outer_listed}
 

@@ -8,7 +8,7 @@ use Rattle.lists.specs.KeyedLaws.{has_iff, member_has}
 use Rattle.meaning.specs.Model.{Store, Model, store_name, root_of}
 use Rattle.meaning.specs.Nesting.{Nested, child, in_child, nested, parent_in}
 use Rattle.meaning.specs.Facts.{Sound}
-use Rattle.meaning.specs.Laws.Nested.{child_link, link_child, nested_agrees}
+use Rattle.meaning.proofs.Laws.Nested.{child_link, link_child, nested_agrees}
 use Rattle.laws.specs.ByName.{Listed, ByName, root_start, by_name}
 
 pub nested_transitive : (ss : List Store) {x y s : ℕ} → Nested ss x y → Nested ss y s → Nested ss x s

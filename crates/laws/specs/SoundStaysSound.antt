@@ -4,7 +4,7 @@ use Rattle.meaning.specs.Model.{Model, Bytes}
 use Rattle.meaning.specs.Facts.{Sound}
 use Rattle.meaning.specs.Calls.{Call, step}
 use Rattle.meaning.specs.CallList.{after}
-use Rattle.meaning.specs.Laws.Step.{step_accepted}
+use Rattle.meaning.proofs.Laws.Step.{step_accepted}
 use Rattle.laws.specs.AnyStep.{after_step}
 use Rattle.laws.specs.EachCall.{change_sound}
 
@@ -20,4 +20,4 @@ sound_stays_sound m bs c sound = after_step Sound m bs c (change_sound m bs c) s
 pub sound_stays_sound_after : (m : Model) (bs : Bytes) (cs : List Call) → Sound m → Sound (after m bs cs)
 unfolding after
 sound_stays_sound_after m bs [] sound = sound
-sound_stays_sound_after m bs (c ∷ cs) sound = sound_stays_sound_after _ _ cs (sound_stays_sound m bs c sound)
+sound_stays_sound_after m bs (c ∷ cs) sound = sound_stays_sound_after (step m bs c).model (step m bs c).bytes cs (sound_stays_sound m bs c sound)

@@ -7,7 +7,7 @@ use Rattle.meaning.specs.Model.{Run, Model}
 use Rattle.meaning.specs.Rules.{areas_sound}
 use Rattle.meaning.specs.Facts.{Rule1, Sound}
 use Rattle.meaning.specs.Changes.{started}
-use Rattle.meaning.specs.Laws.Agree.{rule1_agrees}
+use Rattle.meaning.proofs.Laws.Agree.{rule1_agrees}
 
 pub start_sound : (m : Model) (a b : Run) → areas_sound a b ≡ true → Sound (started m a b)
 start_sound m a b h =

@@ -2,7 +2,7 @@
 use Rattle.std.specs.Prelude.{Bool, true, false, List, map, ◌≡◌, refl, ℕ, ◌+◌}
 use Rattle.std.proofs.Common.{inl, inr, ⊎_elim, sym, ◌∙◌, ap, arith, ne_eqb}
 use Rattle.std.proofs.lemmas.Bool.{eqb-false}
-use Rattle.lists.specs.Keyed.{has, at, insert, remove}
+use Rattle.lists.specs.Keyed.{has, insert, remove}
 use Rattle.lists.specs.Tests.{tested, never, same_test, reflect}
 use Rattle.lists.specs.KeyedChanges.{has_insert, at_insert_old, has_map, at_map_same, has_remove_iff, at_remove}
 use Rattle.names.specs.Overhead.{store_taken}
@@ -10,9 +10,9 @@ use Rattle.meaning.specs.Model.{Store, Thread, Stack, Run, Model, Bytes, store_n
 use Rattle.meaning.specs.Nesting.{nested, parent_in}
 use Rattle.meaning.specs.Changes.{with_used, with_total, cleared, with_context, with_stores, with_threads, with_stacks}
 use Rattle.meaning.specs.Calls.{Call, start, root, context_of, set_context, total_of, used_of, free_of, find, allocate, make_store, clear, resize, make_stack, destroy_stack, add_thread, remove_thread, checks, change, all_checks, step}
-use Rattle.meaning.specs.Laws.Nested.{named}
-use Rattle.meaning.specs.Laws.Step.{accepted_exact, accepted_sound}
-use Rattle.meaning.specs.Laws.Within.{context_listed}
+use Rattle.meaning.proofs.Laws.Nested.{named}
+use Rattle.meaning.proofs.Laws.Step.{accepted_exact, accepted_sound}
+use Rattle.meaning.proofs.Laws.Within.{context_listed}
 use Rattle.laws.specs.AnyStep.{after_step}
 use Rattle.laws.specs.ByName.{Listed, used_in}
 use Rattle.laws.specs.Geometry.{none_at_free}

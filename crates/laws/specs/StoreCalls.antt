@@ -15,7 +15,7 @@ use Rattle.meaning.specs.Nesting.{Child, Nested, child, nested, parent_in}
 use Rattle.meaning.specs.Reports.{in_use, not_only_child}
 use Rattle.meaning.specs.Facts.{Sound}
 use Rattle.meaning.specs.Changes.{with_used, with_total, cleared, with_stores}
-use Rattle.meaning.specs.Laws.Nested.{named, link_child, nested_agrees}
+use Rattle.meaning.proofs.Laws.Nested.{named, link_child, nested_agrees}
 use Rattle.laws.specs.ByName.{Listed, total_in, used_in, ByName, by_name, root_start, other_line, named_sound}
 use Rattle.laws.specs.Nesting.{nested_transitive, nested_below, never_in_itself, not_nested}
 use Rattle.laws.specs.Geometry.{none_at_free}

@@ -9,7 +9,7 @@ use Rattle.lists.specs.KeyedChanges.{has_insert_iff, at_insert_new, at_insert_ol
 use Rattle.meaning.specs.Model.{Store, store_name, listed, no_such_store, store_of}
 use Rattle.meaning.specs.Nesting.{nested, parent_in}
 use Rattle.meaning.specs.Changes.{line_with_used, with_used, with_total, cleared}
-use Rattle.meaning.specs.Laws.Nested.{named}
+use Rattle.meaning.proofs.Laws.Nested.{named}
 use Rattle.laws.specs.ByName.{Listed, total_in, used_in}
 
 -- ---- another used

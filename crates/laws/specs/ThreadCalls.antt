@@ -1,8 +1,7 @@
 -- Calls 3, 14 and 15 keep a model sound: only rule 5 speaks of threads. Assumes nothing.
-use Rattle.std.specs.Prelude.{true, ◌≡◌, refl, ℕ, eqb}
+use Rattle.std.specs.Prelude.{true, ◌≡◌, refl, ℕ, eqb, if◌then◌else◌}
 use mathlib.Core.List.Memᴰ
 use Rattle.std.proofs.Common.{inl, inr, ⊎_elim}
-use Rattle.lists.specs.Choice.{if◌then◌else◌}
 use Rattle.lists.specs.Keyed.{has, remove, Has}
 use Rattle.lists.specs.Tests.{tested}
 use Rattle.lists.specs.ListLaws.{keep_member}

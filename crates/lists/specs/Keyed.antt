@@ -1,6 +1,5 @@
 -- Lists whose elements have a number for a name, the key. Assumes nothing.
-use Rattle.std.specs.Prelude.{◌≡◌, Bool, true, false, not, ◌&&◌, ◌||◌, List, [], ◌∷◌, ℕ, ◌<◌, ltb, eqb}
-use Rattle.lists.specs.Choice.{if◌then◌else◌}
+use Rattle.std.specs.Prelude.{◌≡◌, Bool, true, false, not, ◌&&◌, ◌||◌, List, [], ◌∷◌, ℕ, ◌<◌, ltb, eqb, if◌then◌else◌}
 use Rattle.lists.specs.Lists.{◌∈◌, AllTwo, keep}
 
 module _ {A : Type 0} (key : A → ℕ) where

@@ -1,8 +1,7 @@
 -- The functions on lists that the definitions use: tests of the elements, the elements that pass one, a sum, all but the first; and AllTwo as a proposition.
 -- Assumes nothing.
-use Rattle.std.specs.Prelude.{Bool, true, false, ◌&&◌, ◌||◌, ℕ, ◌+◌}
+use Rattle.std.specs.Prelude.{Bool, true, false, ◌&&◌, ◌||◌, ℕ, ◌+◌, if◌then◌else◌}
 use mathlib.Core.List.{List, [], ◌∷◌, Memᴰ}
-use Rattle.lists.specs.Choice.{if◌then◌else◌}
 
 infix 40 ◌∈◌
 -- x stands in the list

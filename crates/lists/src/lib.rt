@@ -1,1 +1,3 @@
+#![tactic(auto)]
+
 // Theory of lists. No code: the definitions and laws stand in specs/.

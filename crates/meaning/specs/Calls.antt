@@ -1,7 +1,6 @@
 -- The sixteen calls: document 01, "The calls, with their checks in order". `checks` is the table's middle column, `change` its last, and `step` is a call
 -- whole: the first check whose condition holds is the report, else the change is made. Assumes nothing.
-use Rattle.std.specs.Prelude.{not, ◌&&◌, List, [], ◌∷◌, ℕ, ◌+◌, ◌-◌, eqb}
-use Rattle.lists.specs.Choice.{if◌then◌else◌}
+use Rattle.std.specs.Prelude.{not, ◌&&◌, List, [], ◌∷◌, ℕ, ◌+◌, ◌-◌, eqb, if◌then◌else◌}
 use Rattle.lists.specs.Keyed.{insert, remove}
 use Rattle.names.specs.Overhead.{allocation_overhead, block_taken, store_taken, stack_taken}
 use Rattle.meaning.specs.Model.{Run, Store, Stack, Model, Bytes, free, free_part, stack_run, store_name, thread_name, stack_name, store_of, context_in, stack_of, root_of}

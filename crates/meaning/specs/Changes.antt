@@ -1,6 +1,5 @@
 -- What the changes of the calls do to lists, runs and bytes: the words of document 01's last column, "accepted: value and change". Assumes nothing.
-use Rattle.std.specs.Prelude.{not, List, [], ◌∷◌, map, ℕ, zero, suc, ◌+◌, ◌-◌, min, eqb}
-use Rattle.lists.specs.Choice.{if◌then◌else◌}
+use Rattle.std.specs.Prelude.{not, List, [], ◌∷◌, map, ℕ, zero, suc, ◌+◌, ◌-◌, min, eqb, if◌then◌else◌}
 use Rattle.lists.specs.Lists.{keep}
 use Rattle.lists.specs.Keyed.{has, insert}
 use Rattle.meaning.specs.Model.{Run, Store, Thread, Stack, Model, Bytes, end, thread_name}

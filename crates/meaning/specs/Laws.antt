@@ -1,7 +1,4 @@
--- What is proved of the definitions.
-pub mod Agree
+-- Words of what is proved of the definitions.
 pub mod Step
 pub mod Bytes
-pub mod Nested
 pub mod Find
-pub mod Within

@@ -1,8 +1,7 @@
 -- Nested in, depth, and the deepest store that holds an address. Document 01, "The table" and call 7. Each is said twice: as a relation on the parent
 -- links, in the document's words, and as a computation up the links, which the calls use. Laws/Nested.antt and Laws/Find.antt prove that they agree.
 -- Assumes nothing.
-use Rattle.std.specs.Prelude.{Bool, false, ◌&&◌, ◌||◌, List, [], ◌∷◌, ◌≡◌, ℕ, zero, suc, ◌+◌, ltb, eqb}
-use Rattle.lists.specs.Choice.{if◌then◌else◌}
+use Rattle.std.specs.Prelude.{Bool, false, ◌&&◌, ◌||◌, List, [], ◌∷◌, ◌≡◌, ℕ, zero, suc, ◌+◌, ltb, eqb, if◌then◌else◌}
 use Rattle.lists.specs.Lists.{◌∈◌, keep, rest}
 use Rattle.meaning.specs.Model.{Store, ◌holds◌, whole, store_of, root_of}
 

@@ -1,8 +1,7 @@
 -- When each report number is given: document 01, "Report numbers". A condition stands under its number; 16 is `sound` of Rules.antt with
 -- the table's rule 8, and 3 is not used.
 -- Assumes nothing.
-use Rattle.std.specs.Prelude.{Bool, true, false, not, ◌&&◌, ◌||◌, List, [], ◌∷◌, ◌≡◌, ℕ, ◌+◌, length, leb, ltb, eqb}
-use Rattle.lists.specs.Choice.{if◌then◌else◌}
+use Rattle.std.specs.Prelude.{Bool, true, false, not, ◌&&◌, ◌||◌, List, [], ◌∷◌, ◌≡◌, ℕ, ◌+◌, length, leb, ltb, eqb, if◌then◌else◌}
 use Rattle.lists.specs.Lists.{all, any, rest}
 use Rattle.lists.specs.Keyed.{has}
 use Rattle.names.specs.Overhead.{store_overhead, store_taken}

@@ -1,7 +1,6 @@
 -- The run question: document 01, "One more question is lent both areas: given an address and a length, it returns that run itself as a part of the area it
 -- is in." Assumes nothing.
-use Rattle.std.specs.Prelude.{Bool, not, ◌&&◌, ◌||◌, List, [], ◌∷◌, ℕ, ◌+◌, ◌-◌, leb, eqb, take, drop}
-use Rattle.lists.specs.Choice.{if◌then◌else◌}
+use Rattle.std.specs.Prelude.{Bool, not, ◌&&◌, ◌||◌, List, [], ◌∷◌, ℕ, ◌+◌, ◌-◌, leb, eqb, take, drop, if◌then◌else◌}
 use Rattle.meaning.specs.Model.{Run, Model, Bytes, end, ◌holds◌}
 use Rattle.meaning.specs.Rules.{sound}
 use Rattle.meaning.specs.Reports.{Check, ◌when◌, first_report, not_the_length}

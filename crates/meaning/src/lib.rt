@@ -1,1 +1,3 @@
-// The meaning of the manager. No code: the definitions and their theorems stand in specs/.
+#![tactic(auto)]
+
+// The meaning of the manager. No code: the definitions and the cases stand in specs/, the laws of the definitions in proofs/.

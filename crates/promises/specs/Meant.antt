@@ -11,7 +11,7 @@ use Rattle.meaning.specs.Rules.{sound}
 use Rattle.meaning.specs.Facts.{Sound}
 use Rattle.meaning.specs.Calls.{Call, step}
 use Rattle.meaning.specs.CallList.{after, bytes_after, told}
-use Rattle.meaning.specs.Laws.Step.{step_refused}
+use Rattle.meaning.proofs.Laws.Step.{step_refused}
 use Rattle.laws.specs.Fixed.{limits_stay}
 use Rattle.stretches.specs.Stretch as stretch
 use Rattle.table.specs.declared.Table.{Table}

@@ -12,9 +12,9 @@ use Rattle.meaning.specs.Rules.{areas_sound}
 use Rattle.meaning.specs.Facts.{Sound}
 use Rattle.meaning.specs.Reports.{parent_store}
 use Rattle.meaning.specs.Calls.{Call, start, root, context_of, set_context, total_of, used_of, free_of, find, allocate, make_store, clear, resize, make_stack, destroy_stack, add_thread, remove_thread, code, Outcome, refused, checks, all_checks, step}
-use Rattle.meaning.specs.Laws.Step.{accepted_exact, accepted_sound, step_refused}
-use Rattle.meaning.specs.Laws.Nested.{named, root_or_other}
-use Rattle.meaning.specs.Laws.Within.{store_within, store_fits, context_listed}
+use Rattle.meaning.proofs.Laws.Step.{accepted_exact, accepted_sound, step_refused}
+use Rattle.meaning.proofs.Laws.Nested.{named, root_or_other}
+use Rattle.meaning.proofs.Laws.Within.{store_within, store_fits, context_listed}
 use Rattle.table.specs.declared.Table.{Table}
 use Rattle.table.specs.Table.{reading, written}
 use Rattle.table.specs.Calls.{unsound, settled, called}

@@ -9,7 +9,7 @@ use Rattle.meaning.specs.Model.{Bytes}
 use Rattle.meaning.specs.Rules.{sound}
 use Rattle.meaning.specs.Reports.{Check, First, here, later, NoneHolds}
 use Rattle.meaning.specs.Calls.{Call, code, checks, all_checks, step}
-use Rattle.meaning.specs.Laws.Step.{report_exact, accepted_exact, step_accepted}
+use Rattle.meaning.proofs.Laws.Step.{report_exact, accepted_exact, step_accepted}
 use Rattle.table.specs.declared.Table.{Table}
 use Rattle.table.specs.Table.{reading, written, sound_table, Sized}
 use Rattle.table.specs.Laws.{broken_none}

@@ -8,7 +8,7 @@ use Rattle.lists.specs.Lists.{◌∈◌}
 use Rattle.meaning.specs.Model.{Bytes, whole, store_of}
 use Rattle.meaning.specs.Calls.{Call, clear}
 use Rattle.stretches.specs.Stretch.{Stretch, the_rest}
-use Rattle.stretches.specs.TakesBack.{clear_takes_back}
+use Rattle.stretches.proofs.TakesBack.{clear_takes_back}
 use Rattle.table.specs.declared.Table.{Table}
 use Rattle.table.specs.Table.{reading, written, Sized}
 use Rattle.promises.specs.Handed.{Given, Handed, Made, none, first, last_table, last_bytes}

@@ -10,7 +10,7 @@ use Rattle.meaning.specs.Model.{Bytes}
 use Rattle.meaning.specs.Rules.{sound}
 use Rattle.meaning.specs.Reports.{first_report, First, NoneHolds}
 use Rattle.meaning.specs.RunQuestion.{area_checks, run_report, run_part, empty_part}
-use Rattle.meaning.specs.Laws.Step.{first_given, given_first, none_given, given_none}
+use Rattle.meaning.proofs.Laws.Step.{first_given, given_first, none_given, given_none}
 use Rattle.table.specs.declared.Table.{Table}
 use Rattle.table.specs.Table.{reading, rule8, sound_table}
 use Rattle.table.specs.Calls.{run_number, table_run}

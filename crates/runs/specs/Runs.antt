@@ -10,8 +10,8 @@ use Rattle.meaning.specs.Model.{Bytes, ◌holds◌}
 use Rattle.meaning.specs.Reading.{run_of}
 use Rattle.meaning.specs.Reports.{first_report}
 use Rattle.meaning.specs.RunQuestion.{Part, of_stores, of_stacks, area_checks, part_of, empty_part}
-use Rattle.meaning.specs.Laws.Agree.{holds_iff}
-use Rattle.meaning.specs.Laws.Step.{given_none}
+use Rattle.meaning.proofs.Laws.Agree.{holds_iff}
+use Rattle.meaning.proofs.Laws.Step.{given_none}
 
 -- the part that the run question gives where the table is sound
 unfoldable pub part : Area → Area → Bytes → Bytes → ℕ → ℕ → Part

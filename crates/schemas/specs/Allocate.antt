@@ -7,9 +7,9 @@ use Rattle.meaning.specs.Model.{Store, Model, Bytes, free, store_of, context_in}
 use Rattle.meaning.specs.Facts.{Sound}
 use Rattle.meaning.specs.Changes.{with_used, with_stores}
 use Rattle.meaning.specs.Calls.{allocate, checks, change, all_checks, step}
-use Rattle.meaning.specs.Laws.Nested.{named}
-use Rattle.meaning.specs.Laws.Step.{accepted_exact, step_accepted}
-use Rattle.meaning.specs.Laws.Within.{context_listed}
+use Rattle.meaning.proofs.Laws.Nested.{named}
+use Rattle.meaning.proofs.Laws.Step.{accepted_exact, step_accepted}
+use Rattle.meaning.proofs.Laws.Within.{context_listed}
 use Rattle.laws.specs.ByName.{Listed, used_in, by_name}
 use Rattle.laws.specs.StoreChanges.{UsedSet, used_set}
 use Rattle.laws.specs.StoreCalls.{allocate_sound}

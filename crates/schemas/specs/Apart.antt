@@ -10,7 +10,7 @@ use Rattle.meaning.specs.Model.{Run, Model, end, whole, free_part, free, store_o
 use Rattle.meaning.specs.Nesting.{Child, child, parent_in}
 use Rattle.meaning.specs.Facts.{Sound}
 use Rattle.meaning.specs.Reports.{parent_store, not_last}
-use Rattle.meaning.specs.Laws.Nested.{child_link}
+use Rattle.meaning.proofs.Laws.Nested.{child_link}
 use Rattle.laws.specs.ByName.{total_in, by_name}
 use Rattle.laws.specs.Nesting.{inner_listed}
 use Rattle.laws.specs.Geometry.{nested_inside}

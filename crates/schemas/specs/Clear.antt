@@ -11,9 +11,9 @@ use Rattle.meaning.specs.Facts.{Sound}
 use Rattle.meaning.specs.Reports.{in_use}
 use Rattle.meaning.specs.Changes.{cleared, with_stores}
 use Rattle.meaning.specs.Calls.{clear, checks, change, all_checks, step}
-use Rattle.meaning.specs.Laws.Nested.{named, child_link, link_child, nested_agrees}
-use Rattle.meaning.specs.Laws.Step.{accepted_exact, step_accepted}
-use Rattle.meaning.specs.Laws.Within.{context_listed}
+use Rattle.meaning.proofs.Laws.Nested.{named, child_link, link_child, nested_agrees}
+use Rattle.meaning.proofs.Laws.Step.{accepted_exact, step_accepted}
+use Rattle.meaning.proofs.Laws.Within.{context_listed}
 use Rattle.laws.specs.ByName.{Listed, by_name}
 use Rattle.laws.specs.Nesting.{never_in_itself, not_nested, parent_of_nested, inner_listed}
 use Rattle.laws.specs.StoreChanges.{Cleared, after_clear}

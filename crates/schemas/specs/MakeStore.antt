@@ -9,9 +9,9 @@ use Rattle.meaning.specs.Nesting.{Child, child, parent_in}
 use Rattle.meaning.specs.Facts.{Sound}
 use Rattle.meaning.specs.Changes.{with_used, with_stores}
 use Rattle.meaning.specs.Calls.{make_store, checks, change, all_checks, step}
-use Rattle.meaning.specs.Laws.Nested.{named, child_link, link_child}
-use Rattle.meaning.specs.Laws.Step.{accepted_exact, step_accepted}
-use Rattle.meaning.specs.Laws.Within.{context_listed}
+use Rattle.meaning.proofs.Laws.Nested.{named, child_link, link_child}
+use Rattle.meaning.proofs.Laws.Step.{accepted_exact, step_accepted}
+use Rattle.meaning.proofs.Laws.Within.{context_listed}
 use Rattle.laws.specs.ByName.{Listed, total_in, used_in, by_name}
 use Rattle.laws.specs.Nesting.{inner_listed, outer_listed}
 use Rattle.laws.specs.Geometry.{none_at_free}

@@ -10,9 +10,9 @@ use Rattle.meaning.specs.Model.{Model, Bytes, used_part, store_name, no_such_sto
 use Rattle.meaning.specs.Facts.{Sound}
 use Rattle.meaning.specs.Reports.{no_store, ◌when◌}
 use Rattle.meaning.specs.Calls.{Call, root, context_of, total_of, used_of, free_of, find, code, checks, change, all_checks, step}
-use Rattle.meaning.specs.Laws.Agree.{holds_iff}
-use Rattle.meaning.specs.Laws.Step.{accepted_exact, accepted_sound, step_accepted, question_keeps_model}
-use Rattle.meaning.specs.Laws.Find.{find_right}
+use Rattle.meaning.proofs.Laws.Agree.{holds_iff}
+use Rattle.meaning.proofs.Laws.Step.{accepted_exact, accepted_sound, step_accepted, question_keeps_model}
+use Rattle.meaning.proofs.Laws.Find.{find_right}
 use Rattle.laws.specs.Nesting.{nested_transitive, never_in_itself}
 use Rattle.laws.specs.Depth.{find_deepest}
 use Rattle.schemas.specs.Memory.{run_counts}

@@ -11,8 +11,8 @@ use Rattle.lists.specs.KeyedLaws.{member_has, at_member, member_at}
 use Rattle.meaning.specs.Model.{Store, Stack, Model, whole, used_part, free_part, stack_run, store_name, thread_name, stack_name, no_such_store, no_such_stack, store_of, context_in, stack_of, root_of}
 use Rattle.meaning.specs.Nesting.{Child, Nested, child, in_child, parent_in}
 use Rattle.meaning.specs.Facts.{◌Holds◌, Sound}
-use Rattle.meaning.specs.Laws.Nested.{named, child_link, link_child, root_listed}
-use Rattle.meaning.specs.Laws.Within.{context_listed}
+use Rattle.meaning.proofs.Laws.Nested.{named, child_link, link_child, root_listed}
+use Rattle.meaning.proofs.Laws.Within.{context_listed}
 use Rattle.laws.specs.ByName.{Listed, ByName, by_name}
 use Rattle.laws.specs.Nesting.{never_in_itself, inner_listed, outer_listed, others_in_root}
 use Rattle.laws.specs.Geometry.{nested_inside, siblings}

@@ -11,8 +11,8 @@ use Rattle.meaning.specs.Facts.{Sound}
 use Rattle.meaning.specs.Reports.{not_only_child}
 use Rattle.meaning.specs.Changes.{with_used, with_total, with_stores}
 use Rattle.meaning.specs.Calls.{resize, checks, change, all_checks, step}
-use Rattle.meaning.specs.Laws.Nested.{named, child_link}
-use Rattle.meaning.specs.Laws.Step.{accepted_exact, step_accepted}
+use Rattle.meaning.proofs.Laws.Nested.{named, child_link}
+use Rattle.meaning.proofs.Laws.Step.{accepted_exact, step_accepted}
 use Rattle.laws.specs.ByName.{Listed, total_in, used_in, by_name}
 use Rattle.laws.specs.Nesting.{inner_listed}
 use Rattle.laws.specs.Geometry.{nested_inside}

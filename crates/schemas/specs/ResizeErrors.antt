@@ -10,7 +10,7 @@ use Rattle.meaning.specs.Model.{Store, Model, whole, used_part, free, store_of, 
 use Rattle.meaning.specs.Nesting.{Child, child, parent_in}
 use Rattle.meaning.specs.Facts.{Sound}
 use Rattle.meaning.specs.Reports.{not_only_child}
-use Rattle.meaning.specs.Laws.Nested.{named, child_link, link_child}
+use Rattle.meaning.proofs.Laws.Nested.{named, child_link, link_child}
 use Rattle.laws.specs.ByName.{Listed, total_in, used_in, by_name, root_start}
 use Rattle.laws.specs.Nesting.{outer_listed}
 use Rattle.schemas.specs.Memory.{◌≐◌, ⟨◌⟩, run_counts}

@@ -15,7 +15,7 @@ use Rattle.meaning.specs.Reports.{touches_no_end}
 use Rattle.meaning.specs.Facts.{◌ApartFrom◌, Sound}
 use Rattle.meaning.specs.Changes.{shortened, joined, with_stacks}
 use Rattle.meaning.specs.Calls.{make_stack, destroy_stack, checks, change, all_checks, step}
-use Rattle.meaning.specs.Laws.Step.{accepted_exact, step_accepted}
+use Rattle.meaning.proofs.Laws.Step.{accepted_exact, step_accepted}
 use Rattle.laws.specs.StackCalls.{touching, in_stacks, stack_named, stacks_apart, new_name}
 use Rattle.laws.specs.EachCall.{change_sound}
 use Rattle.schemas.specs.Memory.{◌≐◌, ◌apart◌, ◌∪◌, ◌∖◌, ⟨◌⟩, Contiguous, cells, run_contiguous, contiguous_run, ◌⊕◌⟼◌, ◌⩤◌, picked}

@@ -9,7 +9,7 @@ use Rattle.meaning.specs.Model.{Run, Store, Model, Bytes, store_name, store_of}
 use Rattle.meaning.specs.Facts.{Sound}
 use Rattle.meaning.specs.Changes.{started}
 use Rattle.meaning.specs.Calls.{start, checks, change, all_checks, step}
-use Rattle.meaning.specs.Laws.Step.{step_accepted}
+use Rattle.meaning.proofs.Laws.Step.{step_accepted}
 use Rattle.laws.specs.ByName.{Listed, by_name}
 use Rattle.laws.specs.EachCall.{change_sound}
 use Rattle.schemas.specs.Reports.{MMReport, MMokay, number, number_names, number_most}

@@ -10,8 +10,8 @@ use Rattle.meaning.specs.Rules.{sound}
 use Rattle.meaning.specs.Facts.{Sound}
 use Rattle.meaning.specs.Reports.{Check, First, here, later}
 use Rattle.meaning.specs.Calls.{Call, code, checks, all_checks, step}
-use Rattle.meaning.specs.Laws.Agree.{sound_agrees}
-use Rattle.meaning.specs.Laws.Step.{step_refused, report_exact, accepted_sound}
+use Rattle.meaning.proofs.Laws.Agree.{sound_agrees}
+use Rattle.meaning.proofs.Laws.Step.{step_refused, report_exact, accepted_sound}
 use Rattle.laws.specs.ByName.{Listed}
 use Rattle.schemas.specs.Memory.{picked}
 use Rattle.schemas.specs.Reports.{MMReport, MMokay, number, number_names, number_most}

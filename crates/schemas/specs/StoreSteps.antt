@@ -7,7 +7,7 @@ use Rattle.meaning.specs.Model.{Run, Store, Model, free_part, listed}
 use Rattle.meaning.specs.Nesting.{Child, child, parent_in}
 use Rattle.meaning.specs.Facts.{Sound}
 use Rattle.meaning.specs.Changes.{with_stores}
-use Rattle.meaning.specs.Laws.Nested.{named, child_link, link_child}
+use Rattle.meaning.proofs.Laws.Nested.{named, child_link, link_child}
 use Rattle.laws.specs.ByName.{Listed, total_in, used_in, root_start}
 use Rattle.laws.specs.Nesting.{inner_listed}
 use Rattle.schemas.specs.Blocks.{ΔMemoryBlock, MBAllocate}

@@ -10,7 +10,7 @@ use Rattle.meaning.specs.Model.{Thread, Model, Bytes, thread_name, no_such_threa
 use Rattle.meaning.specs.Facts.{Sound}
 use Rattle.meaning.specs.Changes.{with_context, placed, with_threads}
 use Rattle.meaning.specs.Calls.{set_context, add_thread, remove_thread, checks, change, all_checks, step}
-use Rattle.meaning.specs.Laws.Step.{accepted_exact, step_accepted}
+use Rattle.meaning.proofs.Laws.Step.{accepted_exact, step_accepted}
 use Rattle.laws.specs.EachCall.{change_sound}
 use Rattle.schemas.specs.Memory.{⟨◌⟩, Partial, ◌⊕◌⟼◌, ◌⩤◌, picked}
 use Rattle.schemas.specs.Reports.{MMReport, number, number_most, Success}

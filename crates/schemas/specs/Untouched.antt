@@ -6,7 +6,7 @@ use Rattle.lists.specs.Tests.{never}
 use Rattle.meaning.specs.Model.{Model, Bytes}
 use Rattle.meaning.specs.Facts.{Sound}
 use Rattle.meaning.specs.Calls.{Call, start, root, context_of, set_context, total_of, used_of, free_of, find, allocate, make_store, clear, resize, make_stack, destroy_stack, add_thread, remove_thread, code, change, step}
-use Rattle.meaning.specs.Laws.Step.{step_accepted, step_refused}
+use Rattle.meaning.proofs.Laws.Step.{step_accepted, step_refused}
 use Rattle.schemas.specs.Global.{ΞGlobalMemoryManager}
 use Rattle.schemas.specs.Stacks.{ΞStackMemoryManager}
 use Rattle.schemas.specs.Reading.{global_of, stacks_of}

@@ -8,7 +8,7 @@ use Rattle.meaning.specs.Model.{Model, Bytes, table_limits}
 use Rattle.meaning.specs.Facts.{Sound}
 use Rattle.meaning.specs.Rules.{sound}
 use Rattle.meaning.specs.Calls.{Call, step}
-use Rattle.meaning.specs.Laws.Agree.{sound_agrees}
+use Rattle.meaning.proofs.Laws.Agree.{sound_agrees}
 use Rattle.laws.specs.Fixed.{limits_stay}
 use Rattle.laws.specs.Fits.{Fits, fits_stay}
 use Rattle.laws.specs.SoundStaysSound.{accepted_gives_sound}

@@ -20,7 +20,7 @@ use Rattle.lists.specs.Tests.{tested, same_test, and_iff, implies_iff, reflect}
 use Rattle.names.specs.Overhead.{store_overhead}
 use Rattle.meaning.specs.Model.{Store, end, ◌inside◌, ◌apart_from◌, whole, used_part, store_name, listed, no_such_store, store_of}
 use Rattle.meaning.specs.Rules.{hangs, stores_hang, fits, child_inside, siblings_apart, stores_fit}
-use Rattle.meaning.specs.Laws.Nested.{named}
+use Rattle.meaning.proofs.Laws.Nested.{named}
 
 -- where the last child of k among those done ended; 0 where it has none there
 unfoldable pub ended : ℕ → List Store → ℕ

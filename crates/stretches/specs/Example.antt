@@ -9,7 +9,7 @@ use Rattle.meaning.specs.Calls.{Call, set_context, used_of, find, allocate, make
 use Rattle.meaning.specs.CallList.{Line, ◌answers◌, ◌refused_with◌, ◌finds◌below◌, after, told, bytes_after}
 use Rattle.meaning.specs.Parts.{no_run}
 use Rattle.meaning.specs.Cases.{zeros, lent, start_at}
-use Rattle.meaning.specs.Laws.Agree.{sound_agrees}
+use Rattle.meaning.proofs.Laws.Agree.{sound_agrees}
 use Rattle.stretches.specs.Stretch.{work_inside, moved, stayed, starts_or_resizes, lasts, Stretch}
 
 -- A model of zeros with lines for five stores, which no table of this version has: so a short list of calls fills it by work inside S, and the store that is then

@@ -1,15 +1,9 @@
 -- What is to show of one call: that one that stays does on the model without what is in S as it did on the model, and that one that is dropped changes nothing
 -- there. Assumes nothing.
-use Rattle.std.specs.Prelude.{not, ◌&&◌, ◌≡◌, ℕ, eqb}
-use Rattle.std.proofs.Common.{inl, inr}
-use Rattle.lists.specs.Tests.{tested, and_iff}
+use Rattle.std.specs.Prelude.{◌≡◌, ℕ}
 use Rattle.meaning.specs.Model.{Model, Bytes, whole, store_of}
-use Rattle.meaning.specs.Facts.{Sound}
-use Rattle.meaning.specs.Rules.{sound}
-use Rattle.meaning.specs.Calls.{Call, Outcome, code, checks, change, all_checks, step}
-use Rattle.meaning.specs.Laws.Agree.{sound_agrees}
+use Rattle.meaning.specs.Calls.{Call, Outcome, checks, change}
 use Rattle.meaning.specs.Reports.{NoneHolds}
-use Rattle.meaning.specs.Laws.Step.{accepted_exact}
 use Rattle.stretches.specs.Stretch.{moved, SameOutside}
 use Rattle.stretches.specs.Without.{without}
 
@@ -29,16 +23,3 @@ pub record Follows (S : ℕ) (m : Model) (bs other : Bytes) (c : Call) : Type 0 
 pub record Unseen (S : ℕ) (m : Model) (bs : Bytes) (o : Outcome) : Type 0 where
   pub model : without S o.model ≡ without S m
   pub bytes : Same S m bs o.bytes
-
--- on a sound model only the call's own checks count
-pub sound_passes : (m : Model) (bs : Bytes) (c : Call) → Sound m → NoneHolds (checks m bs c) → NoneHolds (all_checks m bs c)
-unfolding all_checks
-sound_passes m bs c s h = elim (tested (eqb (code c) 0)) [
-  | inl e ↦ rw ((sound_agrees m).1 s, e) h
-  | inr e ↦ rw ((sound_agrees m).1 s, e) h
-]
-
--- an accepted call passes its own checks
-pub own_checks : (m : Model) (bs : Bytes) (c : Call) → (step m bs c).report ≡ 0 → NoneHolds (checks m bs c)
-unfolding all_checks
-own_checks m bs c h = ((and_iff (not (not (eqb (code c) 0) && not (sound m))) _).0 ((accepted_exact m bs c).0 h)).1

@@ -1,7 +1,6 @@
 -- Demand 3, its words as definitions: which calls are a stretch that a clear of the store S takes back, what is left of them, and what that rest has to do.
--- S is a store's identifier throughout. TakesBack.antt proves it, Example.antt shows a stretch. Assumes nothing.
-use Rattle.std.specs.Prelude.{Bool, true, false, not, ◌&&◌, ◌||◌, List, [], ◌∷◌, ◌++◌, map, ◌≡◌, ℕ, ◌+◌, leb, eqb, length, get_or}
-use Rattle.lists.specs.Choice.{if◌then◌else◌}
+-- S is a store's identifier throughout. TakesBack.antt of proofs proves it, Example.antt shows a stretch. Assumes nothing.
+use Rattle.std.specs.Prelude.{Bool, true, false, not, ◌&&◌, ◌||◌, List, [], ◌∷◌, ◌++◌, map, ◌≡◌, ℕ, ◌+◌, leb, eqb, length, get_or, if◌then◌else◌}
 use Rattle.lists.specs.Lists.{◌∈◌}
 use Rattle.meaning.specs.Model.{Run, Store, Model, Bytes, whole, listed, store_of, context_in}
 use Rattle.meaning.specs.Nesting.{nested}

@@ -6,7 +6,7 @@ use Rattle.std.proofs.Math.Path.{ap}
 use Rattle.meaning.specs.Facts.{Sound}
 use Rattle.meaning.specs.Calls.{root, context_of, set_context, total_of, used_of, free_of, make_store, clear, resize, make_stack, destroy_stack, add_thread, remove_thread, checks, change, row}
 use Rattle.meaning.specs.Parts.{replied}
-use Rattle.meaning.specs.Laws.Agree.{sound_agrees}
+use Rattle.meaning.proofs.Laws.Agree.{sound_agrees}
 use Rattle.stores.specs.Stores.{reading as stores_of}
 use Rattle.threads.specs.Threads.{reading as threads_of, written as threads_written}
 use Rattle.thread_calls.specs.ThreadCalls as thread_calls

@@ -15,9 +15,9 @@ use Rattle.meaning.specs.Changes.{shortened, joined}
 use Rattle.meaning.specs.Reading.{fits32}
 use Rattle.meaning.specs.Reports.{first_report, context_store}
 use Rattle.meaning.specs.Calls.{allocate, make_store, resize, make_stack, destroy_stack, checks}
-use Rattle.meaning.specs.Laws.Step.{given_none}
-use Rattle.meaning.specs.Laws.Nested.{root_or_other}
-use Rattle.meaning.specs.Laws.Within.{store_within, store_fits, context_listed}
+use Rattle.meaning.proofs.Laws.Step.{given_none}
+use Rattle.meaning.proofs.Laws.Nested.{root_or_other}
+use Rattle.meaning.proofs.Laws.Within.{store_within, store_fits, context_listed}
 use Rattle.names.specs.Overhead.{allocation_overhead, store_taken, stack_taken}
 use Rattle.stack_calls.specs.StackCalls.{run_fits}
 use Rattle.store_calls.specs.StoreCalls.{resized_used}

@@ -3,7 +3,7 @@ use Rattle.std.specs.Prelude.{Bool, true, false, not, ◌&&◌, List, [], ◌∷
 use Rattle.std.proofs.Common.{sym, ◌∙◌, eqb-true, eq-eqb}
 use Rattle.lists.specs.Choice.{if◌then◌else◌}
 use Rattle.lists.specs.Tests.{same_test, and_iff, reflect}
-use Rattle.meaning.specs.Laws.Step.{none_given, given_none}
+use Rattle.meaning.proofs.Laws.Step.{none_given, given_none}
 use Rattle.meaning.specs.Model.{Model, table_limits}
 use Rattle.meaning.specs.Rules.{rule1, rule2, rule3, rule4, rule5, rule6, rule7, sound}
 use Rattle.meaning.specs.Reading.{run_of}

@@ -10,7 +10,7 @@ use Rattle.meaning.specs.Rules.{sound}
 use Rattle.meaning.specs.Changes.{with_stores, with_threads, with_stacks}
 use Rattle.meaning.specs.Reports.{Check, first_report}
 use Rattle.meaning.specs.Calls.{Call, code, accepted, decide, row}
-use Rattle.meaning.specs.Laws.Step.{sound_row}
+use Rattle.meaning.proofs.Laws.Step.{sound_row}
 use Rattle.names.specs.Numbers.{Told}
 use Rattle.names.specs.declared.lines.Area.{Area}
 use Rattle.stores.specs.declared.Stores.{Stores}

@@ -4,7 +4,7 @@ use mathlib.Core.Path.{◌≡◌, sym, ◌∙◌}
 use borrow.Author.Rules.{rules}
 use Rattle.meaning.specs.Model.{◌holds◌}
 use Rattle.meaning.specs.Reading.{run_of}
-use Rattle.meaning.specs.Laws.Agree.{holds_iff}
+use Rattle.meaning.proofs.Laws.Agree.{holds_iff}
 use Rattle.board.specs.Run.{by_refused, by_stores, by_stacks}
 use Rattle.board.proofs.run.run_of.Statement.{statement}
 use Rattle.board.proofs.run.run_of.Tie as tie

@@ -9,16 +9,16 @@ use Rattle.meaning.specs.Reports.{context_store}
 use Rattle.meaning.specs.Facts.{◌Inside◌, Sound}
 use Rattle.meaning.specs.Changes.{line_with_used}
 use Rattle.meaning.specs.Calls.{allocate, checks, change, all_checks, step}
-use Rattle.meaning.specs.Laws.Nested.{named, nested_agrees}
-use Rattle.meaning.specs.Laws.Step.{accepted_exact}
+use Rattle.meaning.proofs.Laws.Nested.{named, nested_agrees}
+use Rattle.meaning.proofs.Laws.Step.{accepted_exact}
 use Rattle.laws.specs.ByName.{Listed, by_name}
 use Rattle.laws.specs.Geometry.{nested_inside}
-use Rattle.meaning.specs.Laws.Within.{context_listed}
+use Rattle.meaning.proofs.Laws.Within.{context_listed}
 use Rattle.stretches.specs.Stretch.{within, moved}
-use Rattle.stretches.specs.Bytes.{zeroed_alike, zeroed_unseen}
+use Rattle.stretches.proofs.Bytes.{zeroed_alike, zeroed_unseen}
 use Rattle.stretches.specs.Follows.{Same, Follows, Unseen}
-use Rattle.stretches.specs.Lines.{lines_seen, lines_unseen, used_swap, used_undone}
-use Rattle.stretches.specs.Contexts.{out_of, threads_same, context_store_same}
+use Rattle.stretches.proofs.Lines.{lines_seen, lines_unseen, used_swap, used_undone}
+use Rattle.stretches.proofs.Contexts.{out_of, threads_same, context_store_same}
 
 -- a store within S lies in S's total
 within_lies : (S : ℕ) (m : Model) → Sound m → (x : ℕ) → Listed m.stores S → within S m x ≡ true → whole (store_of m.stores x) Inside whole (store_of m.stores S)

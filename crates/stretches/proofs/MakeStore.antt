@@ -11,20 +11,20 @@ use Rattle.meaning.specs.Reports.{context_store}
 use Rattle.meaning.specs.Facts.{Sound}
 use Rattle.meaning.specs.Changes.{line_with_used, with_used, with_stores}
 use Rattle.meaning.specs.Calls.{make_store, checks, change, all_checks, step}
-use Rattle.meaning.specs.Laws.Nested.{named}
-use Rattle.meaning.specs.Laws.Step.{accepted_exact}
+use Rattle.meaning.proofs.Laws.Nested.{named}
+use Rattle.meaning.proofs.Laws.Step.{accepted_exact}
 use Rattle.laws.specs.ByName.{Listed}
 use Rattle.laws.specs.Geometry.{none_at_free}
 use Rattle.laws.specs.StoreChanges.{used_set}
 use Rattle.laws.specs.StoreCalls.{allocate_sound, make_store_sound}
-use Rattle.meaning.specs.Laws.Within.{context_listed}
+use Rattle.meaning.proofs.Laws.Within.{context_listed}
 use Rattle.stretches.specs.Stretch.{within, moved}
 use Rattle.stretches.specs.Without.{without}
-use Rattle.stretches.specs.Bytes.{same_bytes}
+use Rattle.stretches.proofs.Bytes.{same_bytes}
 use Rattle.stretches.specs.Follows.{Same, Follows, Unseen}
-use Rattle.stretches.specs.Lines.{nested_lines, lines_seen, lines_unseen, used_swap, used_undone}
-use Rattle.stretches.specs.Inserted.{insert_seen, insert_unseen}
-use Rattle.stretches.specs.Contexts.{out_of, threads_same, context_store_same}
+use Rattle.stretches.proofs.Lines.{nested_lines, lines_seen, lines_unseen, used_swap, used_undone}
+use Rattle.stretches.proofs.Inserted.{insert_seen, insert_unseen}
+use Rattle.stretches.proofs.Contexts.{out_of, threads_same, context_store_same}
 
 -- no store more without what is in S
 stores_fewer : (S : ℕ) (m : Model) → length (without S m).stores ≤ length m.stores

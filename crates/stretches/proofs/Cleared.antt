@@ -9,7 +9,7 @@ use Rattle.meaning.specs.Model.{Store, Model, store_name, listed, no_such_store,
 use Rattle.meaning.specs.Nesting.{Child, Nested, child, in_child, nested, parent_in}
 use Rattle.meaning.specs.Facts.{Sound}
 use Rattle.meaning.specs.Changes.{cleared, with_stores, with_threads}
-use Rattle.meaning.specs.Laws.Nested.{child_link, link_child, nested_agrees}
+use Rattle.meaning.proofs.Laws.Nested.{child_link, link_child, nested_agrees}
 use Rattle.laws.specs.ByName.{Listed, root_start}
 use Rattle.laws.specs.Frames.{sound_with_threads}
 use Rattle.laws.specs.Nesting.{nested_transitive, never_in_itself, not_nested}

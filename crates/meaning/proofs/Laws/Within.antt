@@ -9,7 +9,7 @@ use Rattle.names.specs.Overhead.{store_overhead}
 use Rattle.meaning.specs.Model.{Store, Model, whole, store_name, thread_name, listed, no_such_store, no_such_thread, store_of, context_in, root_of}
 use Rattle.meaning.specs.Nesting.{parent_in}
 use Rattle.meaning.specs.Facts.{◌Inside◌, Sound}
-use Rattle.meaning.specs.Laws.Nested.{named, root_or_other}
+use Rattle.meaning.proofs.Laws.Nested.{named, root_or_other}
 
 module _ (m : Model) (sound : Sound m) where
   abbrev ss : List Store

@@ -3,7 +3,8 @@ use Rattle.std.specs.Prelude.{◌≡◌, refl, ℕ}
 use Rattle.meaning.specs.Model.{Model, Bytes}
 use Rattle.meaning.specs.Calls.{make_stack, destroy_stack, checks, change, step}
 use Rattle.stretches.specs.Stretch.{moved}
-use Rattle.stretches.specs.Follows.{Same, Follows, own_checks}
+use Rattle.stretches.specs.Follows.{Same, Follows}
+use Rattle.stretches.proofs.Follows.{own_checks}
 
 module _ (S : ℕ) (m : Model) (bs other : Bytes) (same : Same S m bs other) where
   pub make_stack_follows : (n : ℕ) → (step m bs (make_stack n)).report ≡ 0 → Follows S m bs other (make_stack n)

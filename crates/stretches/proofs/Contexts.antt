@@ -10,7 +10,8 @@ use Rattle.meaning.specs.Nesting.{nested}
 use Rattle.meaning.specs.Reports.{context_store}
 use Rattle.laws.specs.StoreChanges.{after_clear}
 use Rattle.stretches.specs.Stretch.{within}
-use Rattle.stretches.specs.Without.{move_line, without, instead_out, moved_context}
+use Rattle.stretches.specs.Without.{move_line, without}
+use Rattle.stretches.proofs.Without.{instead_out, moved_context}
 
 -- a store is neither S nor nested in S
 pub out_of : (S : ℕ) (m : Model) (s : ℕ) → within S m s ≡ false → (s ≡ S → ⊥) × (nested m.stores s S ≡ false)

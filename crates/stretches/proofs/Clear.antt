@@ -16,20 +16,21 @@ use Rattle.meaning.specs.Reports.{in_use}
 use Rattle.meaning.specs.Facts.{Sound}
 use Rattle.meaning.specs.Changes.{line_with_used, cleared}
 use Rattle.meaning.specs.Calls.{clear, checks, change, all_checks, step}
-use Rattle.meaning.specs.Laws.Nested.{nested_agrees}
-use Rattle.meaning.specs.Laws.Step.{accepted_exact, step_accepted}
+use Rattle.meaning.proofs.Laws.Nested.{nested_agrees}
+use Rattle.meaning.proofs.Laws.Step.{accepted_exact, step_accepted}
 use Rattle.laws.specs.ByName.{Listed}
 use Rattle.laws.specs.Nesting.{nested_transitive}
-use Rattle.meaning.specs.Laws.Within.{context_listed}
+use Rattle.meaning.proofs.Laws.Within.{context_listed}
 use Rattle.stretches.specs.Stretch.{within, instead, moved}
-use Rattle.stretches.specs.Cleared.{nested_cleared, not_in_itself}
-use Rattle.stretches.specs.Without.{move_line, moved_threads, without, remade, moved_alike, instead_not_nested, without_empty}
-use Rattle.stretches.specs.Bytes.{same_bytes}
+use Rattle.stretches.proofs.Cleared.{nested_cleared, not_in_itself}
+use Rattle.stretches.specs.Without.{move_line, moved_threads, without}
+use Rattle.stretches.proofs.Without.{remade, moved_alike, instead_not_nested, without_empty}
+use Rattle.stretches.proofs.Bytes.{same_bytes}
 use Rattle.stretches.specs.Follows.{Same, Follows, Unseen}
-use Rattle.stretches.specs.Lines.{used_swap, used_undone}
+use Rattle.stretches.proofs.Lines.{used_swap, used_undone}
 use Rattle.laws.specs.SoundStaysSound.{sound_stays_sound}
 use Rattle.laws.specs.StoreChanges.{not_in, after_clear}
-use Rattle.stretches.specs.Contexts.{out_of, threads_same, context_same}
+use Rattle.stretches.proofs.Contexts.{out_of, threads_same, context_same}
 
 -- the test of the stores that a clear of c leaves
 abbrev outside : List Store → ℕ → Store → Bool

@@ -7,10 +7,10 @@ use Rattle.meaning.specs.Calls.{Call, clear}
 use Rattle.meaning.specs.CallList.{after}
 use Rattle.laws.specs.SoundStaysSound.{sound_stays_sound_after}
 use Rattle.stretches.specs.Stretch.{Stretch, TakenBack}
-use Rattle.stretches.specs.Without.{without_empty}
-use Rattle.stretches.specs.Bytes.{same_bytes}
-use Rattle.stretches.specs.AnyCalls.{any_calls, stayed_accepted, after_last}
-use Rattle.stretches.specs.Clear.{clear_empties}
+use Rattle.stretches.proofs.Without.{without_empty}
+use Rattle.stretches.proofs.Bytes.{same_bytes}
+use Rattle.stretches.proofs.AnyCalls.{any_calls, stayed_accepted, after_last}
+use Rattle.stretches.proofs.Clear.{clear_empties}
 
 -- The rest of a stretch, run from the same start, is all accepted with the same answers, and ends with the same table and the same bytes outside S.
 pub clear_takes_back : (S : ℕ) (m : Model) (bs : Bytes) (cs : List Call) → Stretch S m bs cs → TakenBack S m bs cs

@@ -13,12 +13,13 @@ use Rattle.meaning.specs.Model.{Store, Thread, Model, store_name, listed, no_suc
 use Rattle.meaning.specs.Nesting.{Child, Nested, child, in_child, nested, parent_in}
 use Rattle.meaning.specs.Facts.{Sound}
 use Rattle.meaning.specs.Changes.{line_with_used, cleared, with_stores}
-use Rattle.meaning.specs.Laws.Nested.{child_link, link_child, nested_agrees}
+use Rattle.meaning.proofs.Laws.Nested.{child_link, link_child, nested_agrees}
 use Rattle.laws.specs.ByName.{Listed}
 use Rattle.laws.specs.Nesting.{nested_transitive, inner_listed, outer_listed}
 use Rattle.laws.specs.StoreChanges.{not_in}
 use Rattle.stretches.specs.Stretch.{within}
-use Rattle.stretches.specs.Without.{without, remade, moved_alike}
+use Rattle.stretches.specs.Without.{without}
+use Rattle.stretches.proofs.Without.{remade, moved_alike}
 
 module _ (m : Model) (sound : Sound m) (new : Store) (fresh : listed m.stores new.start ≡ false) (lower : new.parent < new.start)
     (more-sound : Sound (with_stores m (insert store_name new m.stores))) where

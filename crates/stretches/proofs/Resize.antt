@@ -15,18 +15,18 @@ use Rattle.meaning.specs.Reports.{parent_store, not_only_child}
 use Rattle.meaning.specs.Facts.{Sound}
 use Rattle.meaning.specs.Changes.{line_with_used, line_with_total, cleared, with_stores}
 use Rattle.meaning.specs.Calls.{resize, checks, change, all_checks, step}
-use Rattle.meaning.specs.Laws.Nested.{named, link_child, nested_agrees}
-use Rattle.meaning.specs.Laws.Step.{accepted_exact}
+use Rattle.meaning.proofs.Laws.Nested.{named, link_child, nested_agrees}
+use Rattle.meaning.proofs.Laws.Step.{accepted_exact}
 use Rattle.laws.specs.ByName.{Listed, total_in, by_name, root_start}
 use Rattle.laws.specs.Nesting.{nested_transitive, parent_of_nested}
 use Rattle.laws.specs.StoreChanges.{not_in, after_clear}
 use Rattle.stretches.specs.Stretch.{within, moved}
-use Rattle.stretches.specs.Cleared.{stays_listed, root_left}
+use Rattle.stretches.proofs.Cleared.{stays_listed, root_left}
 use Rattle.stretches.specs.Without.{without}
-use Rattle.stretches.specs.Bytes.{same_bytes}
+use Rattle.stretches.proofs.Bytes.{same_bytes}
 use Rattle.stretches.specs.Follows.{Same, Follows, Unseen}
-use Rattle.stretches.specs.Lines.{lines_seen, lines_unseen, used_swap, used_undone}
-use Rattle.stretches.specs.Contexts.{out_of}
+use Rattle.stretches.proofs.Lines.{lines_seen, lines_unseen, used_swap, used_undone}
+use Rattle.stretches.proofs.Contexts.{out_of}
 
 -- ---- the parent of a nested store
 

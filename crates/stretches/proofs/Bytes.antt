@@ -5,7 +5,7 @@ use Rattle.std.proofs.Math.Decide.{dec_lt}
 use Rattle.std.proofs.Math.ListN.{get_or-eq_default}
 use Rattle.meaning.specs.Model.{Run, Bytes, end}
 use Rattle.meaning.specs.Changes.{zeroed}
-use Rattle.meaning.specs.Laws.Bytes.{zeroed_length, zeroed_before, zeroed_behind, zeroed_inside}
+use Rattle.meaning.proofs.Laws.Bytes.{zeroed_length, zeroed_before, zeroed_behind, zeroed_inside}
 use Rattle.stretches.specs.Stretch.{SameOutside}
 
 -- a byte of the block is 0, or there is none

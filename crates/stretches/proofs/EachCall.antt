@@ -9,22 +9,22 @@ use Rattle.lists.specs.Tests.{never}
 use Rattle.meaning.specs.Model.{Model, Bytes, whole, store_of, context_in}
 use Rattle.meaning.specs.Facts.{Sound}
 use Rattle.meaning.specs.Calls.{Call, start, root, context_of, set_context, total_of, used_of, free_of, find, allocate, make_store, clear, resize, make_stack, destroy_stack, add_thread, remove_thread, code, change, step}
-use Rattle.meaning.specs.Laws.Nested.{named}
-use Rattle.meaning.specs.Laws.Step.{step_accepted, step_refused}
+use Rattle.meaning.proofs.Laws.Nested.{named}
+use Rattle.meaning.proofs.Laws.Step.{step_accepted, step_refused}
 use Rattle.laws.specs.ByName.{Listed}
 use Rattle.laws.specs.Fixed.{areas_stay}
 use Rattle.laws.specs.Stays.{untouched_stays}
 use Rattle.laws.specs.Touched.{touched}
 use Rattle.laws.specs.StoreChanges.{after_clear}
 use Rattle.stretches.specs.Stretch.{question, is_accepted, work_inside, stays, starts_or_resizes}
-use Rattle.stretches.specs.Bytes.{same_bytes}
+use Rattle.stretches.proofs.Bytes.{same_bytes}
 use Rattle.stretches.specs.Follows.{Same, Follows, Unseen}
-use Rattle.stretches.specs.Allocate.{allocate_follows, allocate_unseen}
-use Rattle.stretches.specs.MakeStore.{make_store_follows, make_store_unseen}
-use Rattle.stretches.specs.Clear.{clear_follows, clear_unseen}
-use Rattle.stretches.specs.Resize.{resize_follows, resize_unseen}
-use Rattle.stretches.specs.Threads.{set_context_follows, add_thread_follows, remove_thread_follows}
-use Rattle.stretches.specs.Stacks.{make_stack_follows, destroy_stack_follows}
+use Rattle.stretches.proofs.Allocate.{allocate_follows, allocate_unseen}
+use Rattle.stretches.proofs.MakeStore.{make_store_follows, make_store_unseen}
+use Rattle.stretches.proofs.Clear.{clear_follows, clear_unseen}
+use Rattle.stretches.proofs.Resize.{resize_follows, resize_unseen}
+use Rattle.stretches.proofs.Threads.{set_context_follows, add_thread_follows, remove_thread_follows}
+use Rattle.stretches.proofs.Stacks.{make_stack_follows, destroy_stack_follows}
 
 -- an accepted call that does not stay is a question or work inside S
 dropped : (q a w : Bool) → (not q && a && not w) ≡ false → a ≡ true → (q || w) ≡ true

@@ -14,13 +14,14 @@ use Rattle.meaning.specs.Model.{Store, Thread, Model, Bytes, thread_name}
 use Rattle.meaning.specs.Facts.{Sound}
 use Rattle.meaning.specs.Changes.{line_with_context, with_context, placed, cleared}
 use Rattle.meaning.specs.Calls.{set_context, add_thread, remove_thread, checks, change, all_checks, step}
-use Rattle.meaning.specs.Laws.Step.{accepted_exact}
+use Rattle.meaning.proofs.Laws.Step.{accepted_exact}
 use Rattle.laws.specs.ByName.{Listed}
 use Rattle.stretches.specs.Stretch.{instead, moved}
-use Rattle.stretches.specs.Cleared.{stays_listed}
-use Rattle.stretches.specs.Without.{move_line, moved_threads, remade, instead_not_nested, instead_listed}
+use Rattle.stretches.proofs.Cleared.{stays_listed}
+use Rattle.stretches.specs.Without.{move_line, moved_threads}
+use Rattle.stretches.proofs.Without.{remade, instead_not_nested, instead_listed}
 use Rattle.stretches.specs.Follows.{Same, Follows}
-use Rattle.stretches.specs.Contexts.{threads_same}
+use Rattle.stretches.proofs.Contexts.{threads_same}
 
 module _ (S : ℕ) (ss : List Store) (t s : ℕ) where
   moved_set : (ts : List Thread) → with_context t (instead S ss s) (moved_threads S ss ts) ≡ moved_threads S ss (with_context t s ts)

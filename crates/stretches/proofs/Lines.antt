@@ -12,7 +12,8 @@ use Rattle.meaning.specs.Nesting.{nested, climbs}
 use Rattle.meaning.specs.Changes.{line_with_used, cleared, with_stores}
 use Rattle.laws.specs.StoreChanges.{not_in}
 use Rattle.stretches.specs.Stretch.{within}
-use Rattle.stretches.specs.Without.{without, remade, moved_alike}
+use Rattle.stretches.specs.Without.{without}
+use Rattle.stretches.proofs.Without.{remade, moved_alike}
 
 module _ (f : Store → Store) (start : (s : Store) → (f s).start ≡ s.start) (parent : (s : Store) → (f s).parent ≡ s.parent) where
   -- nested in means the same

@@ -1,0 +1,16 @@
+pub mod Cleared
+pub mod Without
+pub mod Bytes
+pub mod Follows
+pub mod Lines
+pub mod Contexts
+pub mod Allocate
+pub mod Resize
+pub mod Inserted
+pub mod MakeStore
+pub mod Clear
+pub mod Threads
+pub mod Stacks
+pub mod EachCall
+pub mod AnyCalls
+pub mod TakesBack
