@@ -1,0 +1,21 @@
+-- `Table::find` meets its contract: soundness first, then the way down, which is the meaning's on a sound table. Assumes nothing.
+use mathlib.Core.Bool.{true}
+use mathlib.Core.List.{[]}
+use mathlib.Core.Path.{◌≡◌, refl, sym, ◌∙◌, ap}
+use Rattle.lines.specs.Shape.{unmapped}
+use Rattle.table.specs.Table.{sound_table, Sized}
+use Rattle.table.specs.Calls.{found_answer}
+use Rattle.table.specs.Ways.{called_unsound}
+use Rattle.table.specs.Finding.{found_of, find_called}
+use Rattle.std.proofs.Common.{rules}
+use Rattle.table.proofs.Table.find.Goals as goal
+
+pub returns-then-not-is_sound : goal.returns-then-not-is_sound
+returns-then-not-is_sound c = ap found_answer (sym (called_unsound _ [] _ refl (sym c.is_sound.ensures ∙ c.if-not-is_sound.true)))
+
+pub returns : goal.returns
+returns c =
+    let long : Sized c.args.self = record { stores = search (rules, unmapped); threads = search (rules, unmapped); stacks = search (rules, unmapped) } in
+    let sound-here : sound_table c.args.self ≡ true = sym c.is_sound.ensures ∙ c.if-not-is_sound.false in
+    ap (found_of c.args.self) c.find-found.ensures
+    ∙ find_called _ long sound-here _
