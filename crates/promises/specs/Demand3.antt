@@ -4,8 +4,7 @@
 -- answers, and ends with the same table and the same bytes outside S." What a question is, what work inside S is and where a thread is placed instead are the
 -- words of Stretch.antt, asked of what the table reads as at that moment. `demand3` of Proof3.antt proves it of every table whose arrays are as long as they are
 -- declared (`Sized`), whatever the rest hands back. Assumes nothing.
-use Rattle.std.specs.Prelude.{Bool, true, not, ◌&&◌, List, [], ◌∷◌, ◌++◌, map, ◌≡◌, ℕ, eqb}
-use Rattle.lists.specs.Choice.{if◌then◌else◌}
+use Rattle.std.specs.Prelude.{Bool, true, not, ◌&&◌, List, [], ◌∷◌, ◌++◌, map, ◌≡◌, ℕ, eqb, if◌then◌else◌}
 use Rattle.lists.specs.Lists.{◌∈◌}
 use Rattle.names.specs.Numbers.{number_of}
 use Rattle.meaning.specs.Model.{Bytes, whole, listed, store_of, context_in}

@@ -1,10 +1,7 @@
 pub mod Handed
 pub mod OneAnswer
 pub mod Demand1
-pub mod Proof1
 pub mod Demand2
-pub mod Proof2
 pub mod Demand3
 pub mod Meant
-pub mod Proof3
 pub mod RunAnswers

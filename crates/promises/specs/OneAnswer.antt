@@ -1,9 +1,8 @@
 -- The promises leave one answer only: what is handed back is the call on the table, and nothing else meets the promise. Assumes nothing.
-use Rattle.std.specs.Prelude.{Bool, true, false, not, ◌&&◌, ◌≡◌, refl, ℕ, eqb, get_or}
+use Rattle.std.specs.Prelude.{Bool, true, false, not, ◌&&◌, ◌≡◌, refl, ℕ, eqb, get_or, if◌then◌else◌}
 use mathlib.Core.List.{List, [], ◌∷◌}
 use Rattle.std.proofs.Common.{inl, inr, ◌∙◌, ap}
 use Rattle.std.proofs.Math.Path.{sym}
-use Rattle.lists.specs.Choice.{if◌then◌else◌}
 use Rattle.lists.specs.Tests.{tested}
 use Rattle.names.specs.declared.report.Report.{Report}
 use Rattle.names.specs.declared.report.Report.TheVariants.{Accepted, OutOfMemory, NotEmpty, SizeTooSmall, NoSuchStore, StoreInUse, RootResize, NotOnlyChild, UnknownAddress, NoSuchStack, CannotShrink, NoThreadContext, Fragmentation, TableFull, BadArea, UnsoundTable}

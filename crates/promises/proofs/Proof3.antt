@@ -13,7 +13,8 @@ use Rattle.table.specs.declared.Table.{Table}
 use Rattle.table.specs.Table.{reading, written, Sized}
 use Rattle.promises.specs.Handed.{Given, Handed, Made, none, first, last_table, last_bytes}
 use Rattle.promises.specs.Demand3.{line_of, lines_of, rest_of, StretchOf, TakenBackOf}
-use Rattle.promises.specs.Meant.{Good, good_sound, good_written, meant_call, last_good, last_model, last_bytes_lem, lines_told, kept_stayed, lasts_same}
+use Rattle.promises.specs.Meant.{Good}
+use Rattle.promises.proofs.Meant.{good_sound, good_written, meant_call, last_good, last_model, last_bytes_lem, lines_told, kept_stayed, lasts_same}
 
 -- what is handed back stands among the lines
 in_lines : {t : Table} {bs : Bytes} {cs : List Call} {hs : List Given} → Made t bs cs hs → (h : Given) → h ∈ hs → (c : Call) × (line_of c h ∈ lines_of cs hs)

@@ -1,7 +1,6 @@
 -- Demand 1 holds of all that the methods hand back. Assumes nothing.
-use Rattle.std.specs.Prelude.{Bool, true, false, ◌≡◌, refl, ℕ, ◌+◌, ◌≤◌, eqb}
+use Rattle.std.specs.Prelude.{Bool, true, false, ◌≡◌, refl, ℕ, ◌+◌, ◌≤◌, eqb, if◌then◌else◌}
 use Rattle.std.proofs.Common.{⊎_elim, sym, ◌∙◌, ap, arith, ne_eqb}
-use Rattle.lists.specs.Choice.{if◌then◌else◌}
 use Rattle.lists.specs.Tests.{never, not_false_iff, reflect}
 use Rattle.lists.specs.Keyed.{has}
 use Rattle.lists.specs.KeyedLaws.{at_member, has_iff}
