@@ -58,6 +58,7 @@ pub fn apart(a: Area, b: Area) -> bool
 }
 
 // Rule 1.
+#[tactic(auto, unfolding(meaning::specs::Rules::areas_sound))]
 pub fn sound(stores: Area, stacks: Area) -> bool
     ensures { result ≡ areas_sound (run_of stores) (run_of stacks) }
 {
