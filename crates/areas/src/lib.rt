@@ -1,4 +1,6 @@
 // Runs of addresses: areas, the free run, and what the calls ask and change of them. Ends are whole numbers of 64 bits, so that nothing wraps on any area.
+#![tactic(auto)]
+
 ghost use Rattle.std.specs.Prelude.{◌≡◌, ◌+◌, ◌-◌, min};
 ghost use Rattle.lists.specs.Choice.{if◌then◌else◌};
 ghost use Rattle.meaning.specs.Model.{end, ◌holds◌, ◌inside◌, ◌apart_from◌};
@@ -56,6 +58,7 @@ pub fn apart(a: Area, b: Area) -> bool
 }
 
 // Rule 1.
+#[tactic(auto, unfolding(meaning::specs::Rules::areas_sound))]
 pub fn sound(stores: Area, stacks: Area) -> bool
     ensures { result ≡ areas_sound (run_of stores) (run_of stacks) }
 {

@@ -1,5 +1,7 @@
 // The list of stacks: at most 32 lines, by rising start. Each function's promise is an equation with a function on the list that the lines read as, on
 // every value of the struct, whatever its count and lines hold.
+#![tactic(auto)]
+
 ghost use Rattle.std.specs.Prelude.{[], ◌≡◌, ◌≤◌, ◌<◌, min, ltb, length};
 ghost use Rattle.lists.specs.Choice.{if◌then◌else◌};
 ghost use Rattle.lists.specs.Keyed.{has, insert, remove};

@@ -1,5 +1,7 @@
 // The list of stores: at most 64 lines, by rising start. Each function's promise is an equation with a function on the list that the lines read as, on
 // every value of the struct, whatever its count and lines hold.
+#![tactic(auto)]
+
 ghost use Rattle.std.specs.Prelude.{[], map, ◌≡◌, ◌≤◌, ◌<◌, min, ltb, length};
 ghost use Rattle.lists.specs.Choice.{if◌then◌else◌};
 ghost use Rattle.lists.specs.Lists.{any, keep, rest};

@@ -1,5 +1,5 @@
 -- `stores::half_place` meets its contract: a search by halves. Assumes nothing.
-use Prim.Native.Nat.{◌+◌, ◌-◌, ◌/◌}
+use Prim.Native.Nat.{◌+◌, ◌/◌}
 use Rattle.lines.specs.Halves.{halves_start, halves_hit, halves_low, halves_high, halves_end}
 use Rattle.meaning.specs.Model.{store_name}
 use Rattle.stores.specs.Stores.{store_line}

@@ -1,5 +1,4 @@
 -- `stores::lines_with` meets its contract: each line is written anew. Assumes nothing.
-use Prim.Native.Nat.{◌-◌}
 use Rattle.lines.specs.Fill.{each_more, each_end}
 use Rattle.stores.specs.Stores.{store_line}
 use Rattle.std.proofs.Common.{rules}

@@ -1,5 +1,4 @@
 -- `stores::other_child` meets its contract: each line but the first is asked. Assumes nothing.
-use Prim.Native.Nat.{◌-◌}
 use Rattle.lines.specs.Tested.{any_from_more, any_from_stop, any_from_end}
 use Rattle.stores.specs.Stores.{store_line}
 use Rattle.std.proofs.Common.{rules}

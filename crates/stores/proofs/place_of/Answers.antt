@@ -1,5 +1,4 @@
 -- `stores::place_of` meets its contract: a search from the front. Assumes nothing.
-use Prim.Native.Nat.{◌-◌}
 use borrow.Author.Tests.{eq-eqb, ne_eqb}
 use Rattle.lines.specs.Search.{seek_hit, seek_miss, seek_end}
 use Rattle.stores.specs.Stores.{store_line}

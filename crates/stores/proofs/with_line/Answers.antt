@@ -1,5 +1,4 @@
 -- `stores::with_line` meets its contract: the lines are written with one more among them. Assumes nothing.
-use Prim.Native.Nat.{◌-◌}
 use Rattle.lines.specs.Opened.{open_more, open_end}
 use Rattle.stores.specs.Stores.{store_line}
 use Rattle.std.proofs.Common.{rules}

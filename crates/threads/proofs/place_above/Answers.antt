@@ -1,5 +1,4 @@
 -- `threads::place_above` meets its contract: a search from the front. Assumes nothing.
-use Prim.Native.Nat.{◌-◌}
 use borrow.Author.Tests.{lt-ltb, le-ltb}
 use Rattle.lines.specs.Search.{seek_hit, seek_miss, seek_end}
 use Rattle.threads.specs.Threads.{thread_line}

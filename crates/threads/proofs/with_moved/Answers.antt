@@ -1,5 +1,4 @@
 -- `threads::with_moved` meets its contract: each line is written anew. Assumes nothing.
-use Prim.Native.Nat.{◌-◌}
 use Rattle.lines.specs.Fill.{each_more, each_end}
 use Rattle.threads.specs.Threads.{thread_line}
 use Rattle.std.proofs.Common.{rules}

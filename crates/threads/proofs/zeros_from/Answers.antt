@@ -1,5 +1,4 @@
 -- `threads::zeros_from` meets its contract: each line is tested. Assumes nothing.
-use Prim.Native.Nat.{◌-◌}
 use mathlib.Core.Path.{refl}
 use Rattle.lines.specs.Shape.{blank}
 use Rattle.std.proofs.Common.{rules}

@@ -1,5 +1,4 @@
 -- `Stores::without_nested` meets its contract: the lines that stay are copied. Assumes nothing.
-use Prim.Native.Nat.{◌-◌}
 use mathlib.Core.Path.{◌≡◌, refl, sym, ◌∙◌}
 use lib.ListN.{length}
 use Rattle.lines.specs.Shape.{unmapped}
@@ -18,15 +17,15 @@ loop-i-init c =
 
 pub loop-i-preserved : goal.loop-i-preserved
 loop-i-preserved c = let l = c.loop-i in (
-      search rules,
-      search rules,
-      l.invariant.2,
-      l.invariant.3,
-      elim c.if-not-goes.branch [
-        | then-not-goes v ↦ rw (v.out-is, v.w-is) (kept_in store_line _ _ _ (search rules) (search rules) l.i l.w l.out _ (search rules) refl (rw (sym c.goes.ensures ∙ v.if-not-goes.true)) l.invariant.4)
-        | else-not-goes v ↦ rw (v.out-is, v.w-is) (kept_out store_line _ _ _ (search rules) (search rules) l.i l.w l.out (search rules) (rw (sym c.goes.ensures ∙ v.if-not-goes.false)) l.invariant.4)
-      ],
-    )
+  search rules,
+  search rules,
+  l.invariant.2,
+  l.invariant.3,
+  elim c.if-not-goes.branch [
+    | then-not-goes v ↦ rw (v.out-is, v.w-is) (kept_in store_line _ _ _ (search rules) (search rules) l.i l.w l.out _ (search rules) refl (rw (sym c.goes.ensures ∙ v.if-not-goes.true)) l.invariant.4)
+    | else-not-goes v ↦ rw (v.out-is, v.w-is) (kept_out store_line _ _ _ (search rules) (search rules) l.i l.w l.out (search rules) (rw (sym c.goes.ensures ∙ v.if-not-goes.false)) l.invariant.4)
+  ],
+)
 
 pub returns : goal.returns
 unfolding written
