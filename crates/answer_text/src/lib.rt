@@ -48,7 +48,7 @@ fn paste(buffer: &mut [u8], at: usize, text: &[u8])
     requires { at + length text.now ≤ length buffer.old }
     ensures { buffer.new ≡ overwritten at text.now buffer.old }
 {
-    bytes::copy(text, &mut buffer[at..]);
+    buffer[at..at + text.len()].copy_from_slice(text);
 }
 
 // How many digits a number has, at most ten.
