@@ -1,4 +1,6 @@
 // The text of an answer, written into a lent buffer at a place. Where it does not fit nothing is written.
+#![tactic(auto)]
+
 ghost use Rattle.std.specs.Prelude.{◌≡◌, ◌+◌, ◌≤◌, ◌<◌, leb, length};
 ghost use Rattle.texts.specs.Decimal.{decimal};
 ghost use Rattle.texts.specs.Buffer.{overwritten, placed as written, place_after, Put};
