@@ -1,4 +1,6 @@
 // The text of an answer, written into a lent buffer at a place. Where it does not fit nothing is written.
+#![tactic(auto)]
+
 ghost use Rattle.std.specs.Prelude.{◌≡◌, ◌+◌, ◌≤◌, ◌<◌, leb, length};
 ghost use Rattle.texts.specs.Decimal.{decimal};
 ghost use Rattle.texts.specs.Buffer.{overwritten, placed as written, place_after, Put};
@@ -48,7 +50,7 @@ fn paste(buffer: &mut [u8], at: usize, text: &[u8])
     requires { at + length text.now ≤ length buffer.old }
     ensures { buffer.new ≡ overwritten at text.now buffer.old }
 {
-    bytes::copy(text, &mut buffer[at..]);
+    buffer[at..at + text.len()].copy_from_slice(text);
 }
 
 // How many digits a number has, at most ten.

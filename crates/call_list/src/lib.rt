@@ -1,4 +1,6 @@
 // The bench's call list: what stands at a place of it. A record is 19 bytes: the mark, the code of a call, and four numbers, low byte first.
+#![tactic(auto)]
+
 ghost use Rattle.std.specs.Prelude.{◌≡◌, ◌+◌, ◌<◌, ◌≤◌, length, get_or};
 ghost use Rattle.meaning.specs.Calls.{root};
 ghost use Rattle.call_list.specs.Records.{call, calls, zero_after, entry, number_at, marked, whole_record, record_at};

@@ -1,5 +1,7 @@
 // The reader of the bench's call list: the loaded bytes and a place in them. Each function over the reader takes it apart and leaves the work to a function on the
 // bytes and the place. `read_record` takes and hands back plain values: who calls it needs no reader.
+#![tactic(auto)]
+
 ghost use Rattle.std.specs.Prelude.{◌≡◌};
 ghost use Rattle.call_list.specs.Records.{record_at};
 ghost use Rattle.call_list.specs.Decoded.{entry_of};

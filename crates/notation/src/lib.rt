@@ -1,4 +1,6 @@
 // Reads a call list in document 01's own notation, as `0(4096,256,8192,64) 14(1,4096) 8(1,20)`, one call after the other.
+#![tactic(auto)]
+
 ghost use Rattle.std.specs.Prelude.{◌≡◌, ◌+◌, ◌-◌, ◌*◌, ◌≤◌, min};
 ghost use Rattle.texts.specs.Decimal.{is_digit};
 ghost use Rattle.notation.specs.Numbers.{number_at, digits_from};

@@ -1,4 +1,6 @@
 // Writes a record of the bench's call list into a lent buffer. A record is 19 bytes: the mark, the code of a call, and four numbers, low byte first.
+#![tactic(auto)]
+
 ghost use Rattle.std.specs.Prelude.{◌≡◌};
 ghost use Rattle.texts.specs.Buffer.{placed, place_after};
 ghost use Rattle.record_bytes.specs.Records.{low_first, record_bytes};
@@ -17,7 +19,7 @@ pub fn write_record(buffer: &mut [u8], at: usize, code: u8, a: u32, b: u32, c: u
     }
     let end = at + RECORD_LENGTH;
     let made = bytes_of(code, a, b, c, d);
-    bytes::copy(&made, &mut buffer[at..end]);
+    buffer[at..end].copy_from_slice(&made);
     end
 }
 

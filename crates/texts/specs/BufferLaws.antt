@@ -54,6 +54,11 @@ module _ (at : ℕ) (s buffer : List ℕ) where
       sym (drop-append-le (length s) (take k d) (drop k d) few) ∙ ap (drop (length s)) (take-append-drop k d) ∙ drop-drop (length s) at buffer in
       rw (e, take-length s, append_assoc s (drop (length s) (take k d)) (drop k d), tail) (sym (append_assoc (take at buffer) s (drop end buffer)))
 
+  -- or bytes in the place of as many, put back
+  pub put_back : (k : ℕ) (part : List ℕ) → k ≡ length s → part ≡ s → put_mid at k buffer part ≡ overwritten at s buffer
+  unfolding overwritten
+  put_back k part n e = rw (e, n, drop-drop (length s) at buffer) (sym (append_assoc (take at buffer) s (drop end buffer)))
+
 -- the first n bytes, where there are so many, are n
 pub part_length : (n : ℕ) (bytes : List ℕ) → n ≤ length bytes → n ≡ length (take n bytes)
 part_length n bytes h = simp length-take (omega arith)

@@ -1,5 +1,6 @@
 // Numbers in decimals, buffers with bytes in them, and the shape of a record of the bench's call list: the mark, the code of a call, and four numbers. The
 // definitions and laws stand in specs/.
+#![tactic(auto)]
 
 // How many bytes a record has.
 pub const RECORD_LENGTH: usize = 19;
