@@ -1,8 +1,7 @@
 // Runs of addresses: areas, the free run, and what the calls ask and change of them. Ends are whole numbers of 64 bits, so that nothing wraps on any area.
 #![tactic(auto)]
 
-ghost use Rattle.std.specs.Prelude.{◌≡◌, ◌+◌, ◌-◌, min};
-ghost use Rattle.lists.specs.Choice.{if◌then◌else◌};
+ghost use Rattle.std.specs.Prelude.{◌≡◌, ◌+◌, ◌-◌, min, if◌then◌else◌};
 ghost use Rattle.meaning.specs.Model.{end, ◌holds◌, ◌inside◌, ◌apart_from◌};
 ghost use Rattle.meaning.specs.Rules.{areas_sound};
 ghost use Rattle.meaning.specs.Reports.{touches_no_end};

@@ -1,6 +1,5 @@
 -- A call on the bench: document 01, "The bench program". The bench holds the manager's table and a buffer for its stores, of 4,096 bytes. Assumes nothing.
-use Rattle.std.specs.Prelude.{Bool, ◌||◌, [], ◌∷◌, ◌++◌, ℕ, ltb, eqb, take, drop, replicate}
-use Rattle.lists.specs.Choice.{if◌then◌else◌}
+use Rattle.std.specs.Prelude.{Bool, ◌||◌, [], ◌∷◌, ◌++◌, ℕ, ltb, eqb, take, drop, replicate, if◌then◌else◌}
 use Rattle.meaning.specs.Model.{Run, Bytes}
 use Rattle.meaning.specs.Reports.{◌when◌, first_report, too_small}
 use Rattle.meaning.specs.Calls.{Call, start, root, context_of, set_context, total_of, used_of, free_of, find, allocate, make_store, clear, resize, make_stack, destroy_stack, add_thread, remove_thread}

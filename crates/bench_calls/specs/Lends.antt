@@ -1,9 +1,8 @@
 -- The bench has what it lends: from the first call on, the table's store area is never longer than the store buffer. So call 8 is lent all of that area, and the bench
 -- prints report 15 at call 0 alone. Assumes nothing.
-use Rattle.std.specs.Prelude.{Bool, true, false, not, ◌&&◌, ◌||◌, [], ◌∷◌, ◌≡◌, refl, ℕ, ◌≤◌, eqb, length, take}
+use Rattle.std.specs.Prelude.{Bool, true, false, not, ◌&&◌, ◌||◌, [], ◌∷◌, ◌≡◌, refl, ℕ, ◌≤◌, eqb, length, take, if◌then◌else◌}
 use Rattle.std.proofs.Common.{inl, inr, ◌∙◌, ap, arith, length-append, length-take, length-drop, eqb-true}
 use Rattle.std.proofs.Math.Decide.{ℕ_discrete}
-use Rattle.lists.specs.Choice.{if◌then◌else◌}
 use Rattle.lists.specs.Tests.{tested, reflect}
 use Rattle.meaning.specs.Model.{Run, Model, Bytes}
 use Rattle.meaning.specs.Reports.{◌when◌, first_report, too_small}

@@ -1,6 +1,5 @@
 -- The run of the bench: from the bytes of a call list to the bytes of the output. Document 01, "The bench program". Assumes nothing.
-use Rattle.std.specs.Prelude.{Bool, List, [], ◌++◌, ℕ, zero, suc, ◌+◌, leb, length}
-use Rattle.lists.specs.Choice.{if◌then◌else◌}
+use Rattle.std.specs.Prelude.{Bool, List, [], ◌++◌, ℕ, zero, suc, ◌+◌, leb, length, if◌then◌else◌}
 use Rattle.meaning.specs.Model.{Bytes}
 use Rattle.meaning.specs.Calls.{code}
 use Rattle.texts.specs.Record.{record_length}

@@ -1,7 +1,6 @@
 -- The lines of a run, one after the other until one ends it, are what the bench prints for the list. Assumes nothing.
-use Rattle.std.specs.Prelude.{true, List, [], ◌++◌, ◌≡◌, ℕ, zero, suc, ◌+◌, ◌-◌, ◌*◌}
+use Rattle.std.specs.Prelude.{true, List, [], ◌++◌, ◌≡◌, ℕ, zero, suc, ◌+◌, ◌-◌, ◌*◌, if◌then◌else◌}
 use Rattle.std.proofs.Common.{inl, inr, ap, arith}
-use Rattle.lists.specs.Choice.{if◌then◌else◌}
 use Rattle.lists.specs.Tests.{tested}
 use Rattle.meaning.specs.Model.{Bytes}
 use Rattle.texts.specs.Record.{record_length}

@@ -1,9 +1,8 @@
 -- The run question as it crosses to C: its report, and the part that it gives. Assumes nothing.
-use Rattle.std.specs.Prelude.{true, false, ℕ, ◌-◌, ◌≤◌, eqb}
+use Rattle.std.specs.Prelude.{true, false, ℕ, ◌-◌, ◌≤◌, eqb, if◌then◌else◌}
 use Rattle.std.proofs.Math.Logic.{inl, inr}
 use Rattle.std.proofs.Math.Path.{◌≡◌}
 use Rattle.std.proofs.Common.{sym, ◌∙◌, arith, ne_eqb}
-use Rattle.lists.specs.Choice.{if◌then◌else◌}
 use Rattle.lists.specs.Tests.{tested}
 use Rattle.names.specs.declared.lines.Area.{Area}
 use Rattle.meaning.specs.Model.{Bytes, ◌holds◌}

@@ -1,6 +1,5 @@
 -- The bench's call list: document 01, "The bench program". A list is bytes, and at each place of it a record stands, or something to stop at. Assumes nothing.
-use Rattle.std.specs.Prelude.{Bool, ◌&&◌, List, [], ◌∷◌, ℕ, ◌+◌, ◌*◌, leb, eqb, length, take, drop, get_or}
-use Rattle.lists.specs.Choice.{if◌then◌else◌}
+use Rattle.std.specs.Prelude.{Bool, ◌&&◌, List, [], ◌∷◌, ℕ, ◌+◌, ◌*◌, leb, eqb, length, take, drop, get_or, if◌then◌else◌}
 use Rattle.lists.specs.Lists.{all}
 use Rattle.meaning.specs.Calls.{Call, root, context_of, set_context, total_of, used_of, free_of, find, allocate, make_store, clear, resize, make_stack, destroy_stack, add_thread, remove_thread}
 use Rattle.meaning.specs.Cases.{start_at}

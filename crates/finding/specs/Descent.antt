@@ -1,7 +1,6 @@
 -- Call 7 as a way down from the root, on any list of stores: into the child that holds the address, as long as there is one in the lines that follow. The
 -- lines of a sound table rise, so a child follows its parent; Right.antt proves that this is the deepest store that holds the address. Assumes nothing.
-use Rattle.std.specs.Prelude.{Bool, ◌&&◌, List, [], ◌∷◌, ℕ, ◌+◌, eqb}
-use Rattle.lists.specs.Choice.{if◌then◌else◌}
+use Rattle.std.specs.Prelude.{Bool, ◌&&◌, List, [], ◌∷◌, ℕ, ◌+◌, eqb, if◌then◌else◌}
 use Rattle.names.specs.Numbers.{number_of}
 use Rattle.meaning.specs.Model.{Store, ◌holds◌, whole}
 use Rattle.meaning.specs.Calls.{Outcome}

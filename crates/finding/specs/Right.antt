@@ -1,6 +1,6 @@
 -- On a sound model the way down from the root is document 01's row of call 7: it ends at the deepest store whose total holds the address, and the steps
 -- are that store's depth. Assumes nothing.
-use Rattle.std.specs.Prelude.{true, false, ◌≡◌, ℕ, ◌+◌, ◌<◌, eqb}
+use Rattle.std.specs.Prelude.{true, false, ◌≡◌, ℕ, ◌+◌, ◌<◌, eqb, if◌then◌else◌}
 use mathlib.Core.List.Memᴰ.{cases_cons}
 use mathlib.Core.List.Memᴰ.{head as here}
 use mathlib.Core.List.Memᴰ.{not-nil as nowhere}
@@ -11,7 +11,6 @@ use Rattle.std.proofs.Math.Path.{refl, ap, subst}
 use Rattle.std.proofs.Common.{sym, ◌∙◌, ap₂, arith}
 use Rattle.std.proofs.Math.Decide.{ℕ_discrete}
 use borrow.Author.Tests.{eq-eqb, eqb-true, le-ltb, le-leb}
-use Rattle.lists.specs.Choice.{if◌then◌else◌}
 use Rattle.lists.specs.Lists.{◌∈◌, rest}
 use Rattle.lists.specs.Keyed.{Rising}
 use Rattle.lists.specs.Tests.{tested, never, and_iff}

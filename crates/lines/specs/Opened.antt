@@ -1,12 +1,11 @@
 -- The list with one element more at a place, element by element, as a loop writes it. Assumes nothing.
 use mathlib.Core.List.{List, [], ◌∷◌, ◌++◌}
 use Rattle.std.proofs.Common.{inl, inr, ◌∙◌, ap, arith, length-append, length-drop, ltb-true, ltb-false, eqb-true}
-use Rattle.std.specs.Prelude.{◌≡◌, ltb, eqb, length, take, drop, set, get_or}
+use Rattle.std.specs.Prelude.{◌≡◌, ltb, eqb, length, take, drop, set, get_or, if◌then◌else◌}
 use Rattle.std.proofs.Math.Path.{refl}
 use Prim.Native.Nat.{ℕ, zero, suc, ◌+◌, ◌-◌, ◌≤◌, ◌<◌}
 use Rattle.std.proofs.Math.ListN.{length-take}
 use Rattle.std.proofs.lemmas.Bool.{eqb-false}
-use Rattle.lists.specs.Choice.{if◌then◌else◌}
 use Rattle.lists.specs.Tests.{tested}
 use Rattle.lines.specs.Shape.{Shape, live, pad, live_full, live_at}
 use Rattle.lines.specs.Fill.{pad_next, pad_whole}

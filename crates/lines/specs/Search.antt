@@ -1,5 +1,5 @@
 -- The first place at which a test holds, as a loop finds it, and looking up by key through it. Assumes nothing.
-use Rattle.std.specs.Prelude.{Bool, true, false, ◌≡◌, ltb, length, take, drop, get_or}
+use Rattle.std.specs.Prelude.{Bool, true, false, ◌≡◌, ltb, length, take, drop, get_or, if◌then◌else◌}
 use mathlib.Core.List.{List, [], ◌∷◌, ◌++◌}
 use Rattle.std.proofs.Math.Logic.{inl, inr}
 use Rattle.std.proofs.Math.Path.{refl, sym}
@@ -7,7 +7,6 @@ use Rattle.std.proofs.Common.{◌∙◌, ap, lt-ltb}
 use Prim.Native.Nat.{ℕ, suc, ◌+◌, ◌≤◌, ◌<◌}
 use native.Mathlib.Omega.{arith}
 use Rattle.std.proofs.Math.Dec.{eqb, leb-suc-suc}
-use Rattle.lists.specs.Choice.{if◌then◌else◌}
 use Rattle.lists.specs.Keyed.{has, at, insert}
 use Rattle.lists.specs.Tests.{tested}
 use Rattle.lines.specs.Shape.{Shape, live, from_here, from_end}

@@ -1,7 +1,6 @@
 -- A call list as people write it: document 01's own notation, as `0(4096,256,8192,64) 14(1,4096) 8(1,20)`. What stands at a place of such a text is a call,
 -- nothing more, or what is no call, with the place where it goes wrong. Assumes nothing.
-use Rattle.std.specs.Prelude.{Bool, ◌&&◌, ◌||◌, List, ℕ, ◌+◌, ltb, leb, eqb, length, drop, get_or}
-use Rattle.lists.specs.Choice.{if◌then◌else◌}
+use Rattle.std.specs.Prelude.{Bool, ◌&&◌, ◌||◌, List, ℕ, ◌+◌, ltb, leb, eqb, length, drop, get_or, if◌then◌else◌}
 use Rattle.texts.specs.Record.{counts}
 use Rattle.notation.specs.Numbers.{front, number_at}
 use Rattle.notation.specs.declared.Call.{Call}

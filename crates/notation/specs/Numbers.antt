@@ -1,6 +1,5 @@
 -- Numbers in decimal digits, as bytes of a text. Assumes nothing.
-use Rattle.std.specs.Prelude.{Bool, ◌&&◌, List, [], ◌∷◌, ℕ, ◌+◌, min, ltb, leb, length, drop}
-use Rattle.lists.specs.Choice.{if◌then◌else◌}
+use Rattle.std.specs.Prelude.{Bool, ◌&&◌, List, [], ◌∷◌, ℕ, ◌+◌, min, ltb, leb, length, drop, if◌then◌else◌}
 use Rattle.texts.specs.Decimal.{is_digit, value_after, value}
 use Rattle.notation.specs.declared.Digits.{Digits}
 use Rattle.notation.specs.declared.Number.{Number}

@@ -1,9 +1,8 @@
 -- The part of a lent area that the run question gives, by the areas alone. Assumes nothing.
-use Rattle.std.specs.Prelude.{true, false, List, ◌≡◌, ℕ, ◌+◌, ◌-◌, ◌≤◌, min, leb, eqb, length, take, drop}
+use Rattle.std.specs.Prelude.{true, false, List, ◌≡◌, ℕ, ◌+◌, ◌-◌, ◌≤◌, min, leb, eqb, length, take, drop, if◌then◌else◌}
 use Rattle.std.proofs.Common.{inl, inr, sym, ◌∙◌, arith, length-drop, take_all}
 use Rattle.std.proofs.Math.Path.{refl}
 use borrow.Author.Tests.{leb-true, leb-false, ne_eqb}
-use Rattle.lists.specs.Choice.{if◌then◌else◌}
 use Rattle.lists.specs.Tests.{tested, reflect}
 use Rattle.names.specs.declared.lines.Area.{Area}
 use Rattle.meaning.specs.Model.{Bytes, ◌holds◌}

@@ -1,7 +1,6 @@
 -- What calls 12 and 13 need to know of the new free run. Assumes nothing.
-use Rattle.std.specs.Prelude.{Bool, true, false, ◌≡◌, refl, ℕ, ◌+◌, ◌-◌, ◌<◌, ◌≤◌, min, eqb}
+use Rattle.std.specs.Prelude.{Bool, true, false, ◌≡◌, refl, ℕ, ◌+◌, ◌-◌, ◌<◌, ◌≤◌, min, eqb, if◌then◌else◌}
 use Rattle.std.proofs.Common.{◌∙◌, ap, arith, lt-ltb, eqb-true}
-use Rattle.lists.specs.Choice.{if◌then◌else◌}
 use Rattle.lists.specs.Tests.{false_of}
 use Rattle.names.specs.declared.lines.Area.{Area}
 use Rattle.meaning.specs.Model.{Run}

@@ -1,6 +1,5 @@
 -- What the calls on stacks give: document 01's rows of calls 12 and 13, on a model of the stack area, the stacks and the free run alone. Assumes nothing.
-use Rattle.std.specs.Prelude.{Bool, ◌&&◌, [], eqb}
-use Rattle.lists.specs.Choice.{if◌then◌else◌}
+use Rattle.std.specs.Prelude.{Bool, ◌&&◌, [], eqb, if◌then◌else◌}
 use Rattle.meaning.specs.Model.{Run}
 use Rattle.meaning.specs.Calls.{Call, Outcome, row}
 use Rattle.meaning.specs.Parts.{stacks_alone, told_by}

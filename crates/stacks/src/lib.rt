@@ -2,8 +2,7 @@
 // every value of the struct, whatever its count and lines hold.
 #![tactic(auto)]
 
-ghost use Rattle.std.specs.Prelude.{[], ◌≡◌, ◌≤◌, ◌<◌, min, ltb, length};
-ghost use Rattle.lists.specs.Choice.{if◌then◌else◌};
+ghost use Rattle.std.specs.Prelude.{[], ◌≡◌, ◌≤◌, ◌<◌, min, ltb, length, if◌then◌else◌};
 ghost use Rattle.lists.specs.Keyed.{has, insert, remove};
 ghost use Rattle.lines.specs.Shape.{live, pad, blank};
 ghost use Rattle.lines.specs.Search.{place};

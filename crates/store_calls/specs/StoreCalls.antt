@@ -1,7 +1,6 @@
 -- The calls that take or give back room, by their rows of document 01's table, on the lists that they look at. Assumes nothing.
-use Rattle.std.specs.Prelude.{Bool, ◌&&◌, [], ◌≡◌, ℕ, ◌+◌, ◌-◌, eqb}
+use Rattle.std.specs.Prelude.{Bool, ◌&&◌, [], ◌≡◌, ℕ, ◌+◌, ◌-◌, eqb, if◌then◌else◌}
 use borrow.Author.Tests.{ne_eqb}
-use Rattle.lists.specs.Choice.{if◌then◌else◌}
 use Rattle.names.specs.Numbers.{Told, told_of}
 use Rattle.names.specs.Overhead.{store_taken}
 use Rattle.meaning.specs.Model.{Model, store_of}

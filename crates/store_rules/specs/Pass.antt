@@ -1,6 +1,6 @@
 -- Rule 4 in one pass over the stores but the first, each compared with its parent and with where the parent's last child before it ended. `walk` is how the
 -- code decides; no public promise names it. Under rule 3 it is rule 4. Assumes nothing.
-use Rattle.std.specs.Prelude.{Bool, true, ◌&&◌, ◌≡◌, refl, ℕ, ◌<◌, ◌≤◌, leb, eqb}
+use Rattle.std.specs.Prelude.{Bool, true, ◌&&◌, ◌≡◌, refl, ℕ, ◌<◌, ◌≤◌, leb, eqb, if◌then◌else◌}
 use mathlib.Core.List.Memᴰ.{cases_cons}
 use mathlib.Core.List.Memᴰ.{head as here}
 use mathlib.Core.List.Memᴰ.{not-nil as nowhere}
@@ -11,7 +11,6 @@ use Rattle.std.proofs.Common.{inl, inr, ⊎_elim, sym, ◌∙◌, arith, eqb-tru
 use Rattle.std.proofs.Math.Path.{ap}
 use Rattle.std.proofs.Math.Decide.{dec_le}
 use Rattle.std.proofs.lemmas.Bool.{eqb-false}
-use Rattle.lists.specs.Choice.{if◌then◌else◌}
 use Rattle.lists.specs.Lists.{◌∈◌, all, all_two, AllTwo, rest}
 use Rattle.lists.specs.ListLaws.{all_member, all_of, all_two_iff}
 use Rattle.lists.specs.Keyed.{rising, Rising}

@@ -1,7 +1,6 @@
 -- The list of stores: how its lines read, how a list is written, and when it is clean. Assumes nothing.
-use Rattle.std.specs.Prelude.{Bool, true, false, not, ◌&&◌, List, ◌≡◌, refl, ℕ, leb, ltb, eqb, length}
+use Rattle.std.specs.Prelude.{Bool, true, false, not, ◌&&◌, List, ◌≡◌, refl, ℕ, leb, ltb, eqb, length, if◌then◌else◌}
 use Rattle.std.proofs.Common.{leb-true, eqb-true}
-use Rattle.lists.specs.Choice.{if◌then◌else◌}
 use Rattle.lists.specs.Tests.{and_iff}
 use Rattle.lines.specs.Shape.{Shape, live, pad, blank, live_pad, written_back}
 use Rattle.meaning.specs.Model.{Store}

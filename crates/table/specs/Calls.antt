@@ -1,7 +1,6 @@
 -- A call on a table, as document 01 has it: what the manager promises of each of its sixteen calls and of the run question. `Called` is the meaning's `Outcome`
 -- with a table for the model; `Seen` and `SeenFound` are what an `Answer` and a `Found` of the code carry of it. Assumes nothing.
-use Rattle.std.specs.Prelude.{not, ◌&&◌, ℕ, eqb}
-use Rattle.lists.specs.Choice.{if◌then◌else◌}
+use Rattle.std.specs.Prelude.{not, ◌&&◌, ℕ, eqb, if◌then◌else◌}
 use Rattle.names.specs.Numbers.{number_of}
 use Rattle.meaning.specs.Model.{Bytes}
 use Rattle.meaning.specs.Calls.{Call, code, Outcome, step}

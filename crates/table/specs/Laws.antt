@@ -1,7 +1,6 @@
 -- A table is a faithful picture of its model, and the lowest broken rule is 0 exactly on a sound table. Assumes nothing.
-use Rattle.std.specs.Prelude.{Bool, true, false, not, ◌&&◌, List, [], ◌∷◌, ◌↔◌, ◌≡◌, refl, ℕ, eqb}
+use Rattle.std.specs.Prelude.{Bool, true, false, not, ◌&&◌, List, [], ◌∷◌, ◌↔◌, ◌≡◌, refl, ℕ, eqb, if◌then◌else◌}
 use Rattle.std.proofs.Common.{sym, ◌∙◌, eqb-true, eq-eqb}
-use Rattle.lists.specs.Choice.{if◌then◌else◌}
 use Rattle.lists.specs.Tests.{same_test, and_iff, reflect}
 use Rattle.meaning.proofs.Laws.Step.{none_given, given_none}
 use Rattle.meaning.specs.Model.{Model, table_limits}

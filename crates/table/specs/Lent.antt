@@ -1,9 +1,8 @@
 -- What is lent to the table. Call 8: the room taken on the lists and the block zeroed in the lent area are the call's answer and its bytes. The run
 -- question: on a sound table it is asked of the areas alone. Assumes nothing.
-use Rattle.std.specs.Prelude.{Bool, true, List, [], ◌≡◌, ℕ, ◌+◌, ◌-◌, eqb, length}
+use Rattle.std.specs.Prelude.{Bool, true, List, [], ◌≡◌, ℕ, ◌+◌, ◌-◌, eqb, length, if◌then◌else◌}
 use Rattle.std.proofs.Common.{inl, inr, ◌∙◌, arith}
 use borrow.Author.Tests.{eqb-true, eq-eqb, ne_eqb}
-use Rattle.lists.specs.Choice.{if◌then◌else◌}
 use Rattle.lists.specs.Tests.{tested}
 use Rattle.names.specs.Overhead.{allocation_overhead, block_taken}
 use Rattle.meaning.specs.Model.{Model, Bytes, free_part}

@@ -1,9 +1,8 @@
 -- From the calls on the lists to the calls on the table: on a sound table, what a call on some lists gives, put back into the table, is the call's answer.
 -- Assumes nothing.
-use Rattle.std.specs.Prelude.{Bool, true, false, ◌&&◌, List, [], ◌≡◌, ℕ, eqb}
+use Rattle.std.specs.Prelude.{Bool, true, false, ◌&&◌, List, [], ◌≡◌, ℕ, eqb, if◌then◌else◌}
 use Rattle.std.proofs.Math.Logic.{inl, inr}
 use Rattle.std.proofs.Common.{eqb-true}
-use Rattle.lists.specs.Choice.{if◌then◌else◌}
 use Rattle.lists.specs.Tests.{tested, and_iff}
 use Rattle.meaning.specs.Model.{Store, Thread, Stack, Run, Model, Bytes}
 use Rattle.meaning.specs.Rules.{sound}

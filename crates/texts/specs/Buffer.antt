@@ -1,6 +1,5 @@
 -- A buffer with bytes put at a place. Assumes nothing.
-use Rattle.std.specs.Prelude.{Bool, List, ◌++◌, ◌≡◌, ℕ, ◌+◌, leb, length, take, drop}
-use Rattle.lists.specs.Choice.{if◌then◌else◌}
+use Rattle.std.specs.Prelude.{Bool, List, ◌++◌, ◌≡◌, ℕ, ◌+◌, leb, length, take, drop, if◌then◌else◌}
 
 -- the buffer with the bytes from `at` on; all others stay
 unfoldable pub overwritten : ℕ → List ℕ → List ℕ → List ℕ

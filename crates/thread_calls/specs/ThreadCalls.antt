@@ -1,8 +1,7 @@
 -- What the calls on threads give: document 01's rows of calls 2, 3, 14 and 15, on a model of the stores and threads alone. Assumes nothing.
-use Rattle.std.specs.Prelude.{Bool, true, false, ◌&&◌, List, [], ◌≡◌, refl, ℕ, leb, ltb, eqb}
+use Rattle.std.specs.Prelude.{Bool, true, false, ◌&&◌, List, [], ◌≡◌, refl, ℕ, leb, ltb, eqb, if◌then◌else◌}
 use Rattle.std.proofs.Common.{ltb-true, ltb-false, le-leb}
 use Rattle.std.proofs.lemmas.Bool.{lt-leb}
-use Rattle.lists.specs.Choice.{if◌then◌else◌}
 use Rattle.meaning.specs.Model.{Store, Thread}
 use Rattle.meaning.specs.Reports.{threads_full}
 use Rattle.meaning.specs.Changes.{placed}

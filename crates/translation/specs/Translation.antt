@@ -1,6 +1,5 @@
 -- A text of calls turned into records, call by call. Assumes nothing.
-use Rattle.std.specs.Prelude.{List, ℕ, zero, suc, ◌+◌, length}
-use Rattle.lists.specs.Choice.{if◌then◌else◌}
+use Rattle.std.specs.Prelude.{List, ℕ, zero, suc, ◌+◌, length, if◌then◌else◌}
 use Rattle.texts.specs.Buffer.{fits, overwritten}
 use Rattle.notation.specs.Notation.{written}
 use Rattle.notation.specs.declared.Call.{Call}

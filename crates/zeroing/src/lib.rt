@@ -1,6 +1,5 @@
 // The bytes of call 8: all of the block become 0, and no other changes.
-ghost use Rattle.std.specs.Prelude.{◌≡◌, ◌+◌, ◌-◌, eqb};
-ghost use Rattle.lists.specs.Choice.{if◌then◌else◌};
+ghost use Rattle.std.specs.Prelude.{◌≡◌, ◌+◌, ◌-◌, eqb, if◌then◌else◌};
 ghost use Rattle.meaning.specs.Changes.{zeroed};
 ghost use Rattle.names.specs.Numbers.{number_of};
 ghost use Rattle.names.specs.Overhead.{allocation_overhead, block_taken};
