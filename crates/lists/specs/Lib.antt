@@ -1,4 +1,3 @@
-pub mod Choice
 pub mod Keyed
 pub mod Lists
 pub mod Tests
