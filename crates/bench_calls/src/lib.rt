@@ -106,6 +106,7 @@ fn allocated(table: Table, stores: &mut [u8], thread: ThreadId, n: u32) -> Answe
 }
 
 // A record of the list.
+#[tactic(auto, unfolding(crate::specs::Bench::bench_called))]
 pub fn step(table: Table, stores: &mut [u8], entry: Record) -> Stepped
     ensures told { result ≡ stepped table stores.old (entry_of entry) }
     ensures bytes { stores.new ≡ stores_after table stores.old (entry_of entry) }
