@@ -1,4 +1,6 @@
 // Turns a text of calls in document 01's notation into the records that the bench reads.
+#![tactic(auto)]
+
 ghost use Rattle.std.specs.Prelude.{◌≡◌};
 ghost use Rattle.translation.specs.Translation.{translated};
 

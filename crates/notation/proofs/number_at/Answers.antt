@@ -1,6 +1,6 @@
 -- `notation::number_at` meets its contract. Assumes nothing.
 use Rattle.notation.specs.Runs.{number_none, number_large, number_is}
-use Rattle.std.proofs.Common.{rules}
+use Rattle.std.proofs.Common.{arith, rules}
 use Rattle.notation.proofs.number_at.Goals as goal
 
 pub returns-then-next-at : goal.returns-then-next-at
@@ -10,4 +10,4 @@ pub returns-then-value-ge-ABOVE : goal.returns-then-value-ge-ABOVE
 returns-then-value-ge-ABOVE c = number_large _ _ c.digits_at-digits.result c.digits_at-digits.ensures c.if-next-at.false (search rules)
 
 pub returns : goal.returns
-returns c = number_is _ _ c.digits_at-digits.result c.digits_at-digits.ensures c.if-next-at.false c.if-value-ge-ABOVE.false
+returns c = number_is _ _ c.digits_at-digits.result c.digits_at-digits.ensures c.if-next-at.false (omega arith)
