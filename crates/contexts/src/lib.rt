@@ -1,4 +1,6 @@
 // What rule 5 and report 6 ask of the threads' contexts in the list of stores.
+#![tactic(auto)]
+
 ghost use Rattle.std.specs.Prelude.{◌≡◌};
 ghost use Rattle.lists.specs.Lists.{all, any};
 ghost use Rattle.meaning.specs.Rules.{threads_placed};

@@ -1,5 +1,7 @@
 // The run question on the two areas: a run of addresses as a part of the lent area that it is in. The first area is that of the stores, the second that
 // of the stacks. Soundness is the table's to ask, before.
+#![tactic(auto)]
+
 ghost use Rattle.std.specs.Prelude.{◌≡◌, ◌+◌, ◌≤◌, min};
 ghost use Rattle.meaning.specs.Reading.{run_of};
 ghost use Rattle.meaning.specs.Reports.{first_report};

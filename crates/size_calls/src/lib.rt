@@ -1,4 +1,6 @@
 // Calls 1, 4, 5 and 6, on the list of stores. Soundness is the table's to ask, before.
+#![tactic(auto)]
+
 ghost use Rattle.std.specs.Prelude.{[], ◌≡◌};
 ghost use Rattle.names.specs.Numbers.{told_of};
 ghost use Rattle.meaning.specs.Model.{free};

@@ -1,5 +1,7 @@
 // Calls 12 and 13, on the stacks, the stack area and the free run. The checks stand in document 01's order, one under the other. Soundness is the table's to
 // ask, before.
+#![tactic(auto)]
+
 ghost use Rattle.std.specs.Prelude.{◌≡◌};
 ghost use Rattle.meaning.specs.Calls.{make_stack, destroy_stack};
 ghost use Rattle.names.specs.Numbers.{number_of};

@@ -1,4 +1,6 @@
 // Rules 6 and 7 of the stacks, each asked of the lines that are listed, on every value of the struct.
+#![tactic(auto)]
+
 ghost use Rattle.std.specs.Prelude.{◌≡◌, ◌+◌, ◌≤◌};
 ghost use Rattle.lists.specs.Lists.{sum};
 ghost use Rattle.lines.specs.Shape.{live};

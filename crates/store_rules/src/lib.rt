@@ -1,4 +1,6 @@
 // Rules 2, 3 and 4 of the stores, each asked of the lines that are listed, on every value of the struct.
+#![tactic(auto)]
+
 ghost use Rattle.std.specs.Prelude.{true, [], ◌≡◌, ◌≤◌, length};
 ghost use Rattle.lists.specs.Lists.{all, rest};
 ghost use Rattle.lists.specs.Keyed.{rising};

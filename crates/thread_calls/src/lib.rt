@@ -1,4 +1,6 @@
 // Calls 2, 3, 14 and 15, on the lists that they look at. The checks stand in document 01's order, one under the other. Soundness is the table's to ask, before.
+#![tactic(auto)]
+
 ghost use Rattle.std.specs.Prelude.{[], ◌≡◌};
 ghost use Rattle.meaning.specs.Calls.{context_of, set_context, add_thread, remove_thread};
 ghost use Rattle.meaning.specs.Parts.{replied};

@@ -1,11 +1,11 @@
 -- `runs::run` meets its contract: an empty part where the report refuses, else the part of the area that holds the address. Assumes nothing.
-use Rattle.std.proofs.Common.{true, false, ◌≡◌, sym, ◌∙◌, ◌+◌, ◌-◌, ◌≤◌, arith, length, Bor, List, ℕ}
+use Rattle.std.proofs.Common.{true, false, ◌≡◌, sym, ◌∙◌, ◌-◌, arith, List, ℕ}
 use Rattle.names.specs.declared.lines.Area.{Area}
 use Rattle.meaning.specs.Model.{◌holds◌}
 use Rattle.meaning.specs.Reading.{run_of}
 use Rattle.meaning.specs.Reports.{first_report}
-use Rattle.meaning.specs.RunQuestion.{area_checks, empty_part}
-use Rattle.runs.specs.Runs.{part, part_refused, part_first, part_second, in_first, in_second, clipped}
+use Rattle.meaning.specs.RunQuestion.{area_checks}
+use Rattle.runs.specs.Runs.{part_refused, part_first, part_second, in_first, in_second, clipped}
 use Rattle.runs.proofs.run.Goals as goal
 
 -- where the report accepts: the report's checks give 0

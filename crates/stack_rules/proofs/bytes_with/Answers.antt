@@ -1,5 +1,4 @@
 -- `stack_rules::bytes_with` meets its contract: a sum from a first number on. Assumes nothing.
-use Prim.Native.Nat.{◌-◌}
 use Rattle.lines.specs.Carried.{sum_more, sum_end}
 use Rattle.stacks.specs.Stacks.{stack_line}
 use Rattle.stack_rules.specs.Pass.{stack_bytes}

@@ -1,5 +1,4 @@
 -- `stack_rules::lines_fit` meets its contract: each line is tested from where the one before it ended. Assumes nothing.
-use Prim.Native.Nat.{◌-◌}
 use mathlib.Core.Path.{sym, ◌∙◌}
 use Rattle.lines.specs.Carried.{chain_stop, chain_more, chain_end}
 use Rattle.stacks.specs.Stacks.{stack_line}

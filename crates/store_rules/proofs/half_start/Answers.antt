@@ -1,5 +1,5 @@
 -- `store_rules::half_start` meets its contract: a search by halves. Assumes nothing.
-use Prim.Native.Nat.{◌+◌, ◌-◌, ◌/◌}
+use Prim.Native.Nat.{◌+◌, ◌/◌}
 use Rattle.lines.specs.Halves.{halves_start, halves_hit, halves_low, halves_high, halves_end}
 use Rattle.lines.specs.Keys.{number, numbers}
 use Rattle.store_rules.specs.Starts.{first_starts}

@@ -1,5 +1,4 @@
 -- `store_rules::lines_fit` meets its contract: each line is tested. Assumes nothing.
-use Prim.Native.Nat.{◌-◌}
 use Rattle.lines.specs.Tested.{all_from_more, all_from_stop, all_from_end}
 use Rattle.stores.specs.Stores.{store_line}
 use Rattle.std.proofs.Common.{rules}

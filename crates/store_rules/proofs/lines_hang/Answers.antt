@@ -1,5 +1,4 @@
 -- `store_rules::lines_hang` meets its contract: each line but the first is tested. Assumes nothing.
-use Prim.Native.Nat.{◌-◌}
 use Rattle.lines.specs.Tested.{all_from_more, all_from_stop, all_from_end}
 use Rattle.stores.specs.Stores.{store_line}
 use Rattle.store_rules.specs.Starts.{starts_length, starts_rise, starts_hang}
@@ -16,12 +15,12 @@ returns-then-not-line_hangs c = let l = c.loop-i in
 
 pub loop-i-preserved : goal.loop-i-preserved
 loop-i-preserved c = let l = c.loop-i in (
-      search rules,
-      search rules,
-      l.invariant.2,
-      l.invariant.3,
-      all_from_more store_line _ _ (search rules) _ _ l.i (search rules) _ (starts_hang _ _ (search rules) (search rules) _ l.invariant.2 _ _ c.line_hangs.ensures) (c.if-not-line_hangs.false) l.invariant.4,
-    )
+  search rules,
+  search rules,
+  l.invariant.2,
+  l.invariant.3,
+  all_from_more store_line _ _ (search rules) _ _ l.i (search rules) _ (starts_hang _ _ (search rules) (search rules) _ l.invariant.2 _ _ c.line_hangs.ensures) (c.if-not-line_hangs.false) l.invariant.4,
+)
 
 pub returns : goal.returns
 returns c = let l = c.loop-i in all_from_end store_line _ _ (search rules) _ _ l.i (search rules) l.invariant.4

@@ -1,5 +1,5 @@
 -- `store_rules::lines_nest` meets its contract: one pass, which remembers where each parent's last child ended. Assumes nothing.
-use Prim.Native.Nat.{◌<◌, ◌-◌}
+use Prim.Native.Nat.{◌<◌}
 use mathlib.Core.Path.{refl}
 use lib.ListN.{get_or}
 use Rattle.lines.specs.Shape.{live}

@@ -1,5 +1,4 @@
 -- `store_rules::lines_rise` meets its contract: each line is compared with the one before. Assumes nothing.
-use Prim.Native.Nat.{◌-◌}
 use Rattle.lines.specs.Rising.{rise_none, rise_start, rise_stop, rise_more, rise_end}
 use Rattle.meaning.specs.Model.{store_name}
 use Rattle.stores.specs.Stores.{store_line}

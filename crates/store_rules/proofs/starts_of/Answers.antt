@@ -1,5 +1,4 @@
 -- `store_rules::starts_of` meets its contract: the starts are copied. Assumes nothing.
-use Prim.Native.Nat.{◌-◌}
 use mathlib.Core.Path.{refl}
 use Rattle.lines.specs.Keys.{keys_start, keys_more, keys_end}
 use Rattle.meaning.specs.Model.{store_name}

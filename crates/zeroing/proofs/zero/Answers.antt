@@ -1,6 +1,5 @@
 -- `zeroing::zero` meets its contract: before each place the bytes are zeroed from the offset on. Assumes nothing.
 use mathlib.Core.Path.{◌∙◌, ap}
-use Prim.Native.Nat.{◌-◌}
 use lib.ListN.{set}
 use Rattle.zeroing.specs.Zeroing.{zeroed_start, zeroed_more, zeroed_past, zeroed_end}
 use Rattle.std.proofs.Common.{rules}
