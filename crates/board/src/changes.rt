@@ -11,37 +11,28 @@ use names::{Area, StackId, StoreId, ThreadId};
 use table::Table;
 
 // What there is before a start.
-#[unsafe(no_mangle)]
-pub extern "C" fn board_zeros() -> Table
+pub fn board_zeros() -> Table
     ensures { result ≡ zero_table }
 {
     Table::zeros()
 }
 
 // Call 0.
-#[unsafe(no_mangle)]
-pub extern "C" fn board_start(table: Table, stores: Area, stacks: Area) -> BoardAnswer
+pub fn board_start(table: Table, stores: Area, stacks: Area) -> BoardAnswer
     ensures { answer_seen result ≡ answer (called table [] (start (run_of stores) (run_of stacks))) }
 {
     answer_of(table.start(stores, stacks))
 }
 
 // Call 3.
-#[unsafe(no_mangle)]
-pub extern "C" fn board_set_context(table: Table, thread: ThreadId, store: StoreId) -> BoardAnswer
+pub fn board_set_context(table: Table, thread: ThreadId, store: StoreId) -> BoardAnswer
     ensures { answer_seen result ≡ answer (called table [] (set_context thread.0 store.0)) }
 {
     answer_of(table.set_context(thread, store))
 }
 
 // Call 8. The store area is lent, as long as the table says.
-#[unsafe(no_mangle)]
-pub extern "C" fn board_allocate(
-    table: Table,
-    area: &mut [u8],
-    thread: ThreadId,
-    n: u32,
-) -> BoardAnswer
+pub fn board_allocate(table: Table, area: &mut [u8], thread: ThreadId, n: u32) -> BoardAnswer
     ensures told { answer_seen result ≡ answer (called table area.old (allocate thread.0 n)) }
     ensures bytes { area.new ≡ (called table area.old (allocate thread.0 n)).bytes }
 {
@@ -49,56 +40,49 @@ pub extern "C" fn board_allocate(
 }
 
 // Call 9.
-#[unsafe(no_mangle)]
-pub extern "C" fn board_make_store(table: Table, thread: ThreadId, n: u32) -> BoardAnswer
+pub fn board_make_store(table: Table, thread: ThreadId, n: u32) -> BoardAnswer
     ensures { answer_seen result ≡ answer (called table [] (make_store thread.0 n)) }
 {
     answer_of(table.make_store(thread, n))
 }
 
 // Call 10.
-#[unsafe(no_mangle)]
-pub extern "C" fn board_clear(table: Table, thread: ThreadId) -> BoardAnswer
+pub fn board_clear(table: Table, thread: ThreadId) -> BoardAnswer
     ensures { answer_seen result ≡ answer (called table [] (clear thread.0)) }
 {
     answer_of(table.clear(thread))
 }
 
 // Call 11.
-#[unsafe(no_mangle)]
-pub extern "C" fn board_resize(table: Table, store: StoreId, n: u32) -> BoardAnswer
+pub fn board_resize(table: Table, store: StoreId, n: u32) -> BoardAnswer
     ensures { answer_seen result ≡ answer (called table [] (resize store.0 n)) }
 {
     answer_of(table.resize(store, n))
 }
 
 // Call 12.
-#[unsafe(no_mangle)]
-pub extern "C" fn board_make_stack(table: Table, n: u32) -> BoardAnswer
+pub fn board_make_stack(table: Table, n: u32) -> BoardAnswer
     ensures { answer_seen result ≡ answer (called table [] (make_stack n)) }
 {
     answer_of(table.make_stack(n))
 }
 
 // Call 13.
-#[unsafe(no_mangle)]
-pub extern "C" fn board_destroy_stack(table: Table, stack: StackId) -> BoardAnswer
+pub fn board_destroy_stack(table: Table, stack: StackId) -> BoardAnswer
     ensures { answer_seen result ≡ answer (called table [] (destroy_stack stack.0)) }
 {
     answer_of(table.destroy_stack(stack))
 }
 
 // Call 14.
-#[unsafe(no_mangle)]
-pub extern "C" fn board_add_thread(table: Table, thread: ThreadId, store: StoreId) -> BoardAnswer
+pub fn board_add_thread(table: Table, thread: ThreadId, store: StoreId) -> BoardAnswer
     ensures { answer_seen result ≡ answer (called table [] (add_thread thread.0 store.0)) }
 {
     answer_of(table.add_thread(thread, store))
 }
 
 // Call 15.
-#[unsafe(no_mangle)]
-pub extern "C" fn board_remove_thread(table: Table, thread: ThreadId) -> BoardAnswer
+pub fn board_remove_thread(table: Table, thread: ThreadId) -> BoardAnswer
     ensures { answer_seen result ≡ answer (called table [] (remove_thread thread.0)) }
 {
     answer_of(table.remove_thread(thread))

@@ -59,8 +59,7 @@ fn stack_words() -> [Stack; 32]
 }
 
 // The table whose words are 1, 2, 3 and so on, in the order in which its fields lie. It is not sound.
-#[unsafe(no_mangle)]
-pub extern "C" fn board_numbered() -> Table
+pub fn board_numbered() -> Table
     ensures { result ≡ numbered_table }
 {
     let areas = Areas {

@@ -1,5 +1,8 @@
-// The manager for a virtual machine in C: `include/board.h` declares what stands here. A table goes in by value and comes back by value, in structs that
-// C lays out alike. An exported function can return neither an enum nor a reference, so a report crosses as its number, and a run as its place in its area.
+// The manager for a virtual machine in C: the crate `board_c` exports each function that stands here, and `include/board.h` declares them. A table goes in by
+// value and comes back by value, in structs that C lays out alike. An exported function can return neither an enum nor a reference, so a report crosses as its
+// number, and a run as its place in its area.
+#![tactic(auto)]
+
 mod answer;
 mod changes;
 mod layout;

@@ -11,56 +11,49 @@ use names::{StoreId, ThreadId};
 use table::Table;
 
 // The lowest of the eight rules that is broken, 0 if none.
-#[unsafe(no_mangle)]
-pub extern "C" fn board_broken_rule(table: Table) -> u32
+pub fn board_broken_rule(table: Table) -> u32
     ensures { result ≡ broken_rule table }
 {
     table.broken_rule()
 }
 
 // Call 1.
-#[unsafe(no_mangle)]
-pub extern "C" fn board_root(table: Table) -> BoardReply
+pub fn board_root(table: Table) -> BoardReply
     ensures { reply_seen table result ≡ answer (called table [] root) }
 {
     reply_of(table.root())
 }
 
 // Call 2.
-#[unsafe(no_mangle)]
-pub extern "C" fn board_context(table: Table, thread: ThreadId) -> BoardReply
+pub fn board_context(table: Table, thread: ThreadId) -> BoardReply
     ensures { reply_seen table result ≡ answer (called table [] (context_of thread.0)) }
 {
     reply_of(table.context(thread))
 }
 
 // Call 4.
-#[unsafe(no_mangle)]
-pub extern "C" fn board_total(table: Table, store: StoreId) -> BoardReply
+pub fn board_total(table: Table, store: StoreId) -> BoardReply
     ensures { reply_seen table result ≡ answer (called table [] (total_of store.0)) }
 {
     reply_of(table.total(store))
 }
 
 // Call 5.
-#[unsafe(no_mangle)]
-pub extern "C" fn board_used(table: Table, store: StoreId) -> BoardReply
+pub fn board_used(table: Table, store: StoreId) -> BoardReply
     ensures { reply_seen table result ≡ answer (called table [] (used_of store.0)) }
 {
     reply_of(table.used(store))
 }
 
 // Call 6.
-#[unsafe(no_mangle)]
-pub extern "C" fn board_free(table: Table, store: StoreId) -> BoardReply
+pub fn board_free(table: Table, store: StoreId) -> BoardReply
     ensures { reply_seen table result ≡ answer (called table [] (free_of store.0)) }
 {
     reply_of(table.free(store))
 }
 
 // Call 7.
-#[unsafe(no_mangle)]
-pub extern "C" fn board_find(table: Table, address: u32) -> BoardFound
+pub fn board_find(table: Table, address: u32) -> BoardFound
     ensures { found_seen table result ≡ found_answer (called table [] (find address)) }
 {
     found_of(table.find(address))

@@ -47,14 +47,7 @@ fn run_of(stores: Area, stacks: Area, report: u32, address: u32, n: u32) -> Boar
 }
 
 // The run question. Both areas are lent.
-#[unsafe(no_mangle)]
-pub extern "C" fn board_run(
-    table: Table,
-    stores: &[u8],
-    stacks: &[u8],
-    address: u32,
-    n: u32,
-) -> BoardRun
+pub fn board_run(table: Table, stores: &[u8], stacks: &[u8], address: u32, n: u32) -> BoardRun
     ensures { result ≡ run_told table stores.now stacks.now address n }
 {
     let report = table.run_report(stores, stacks, address, n);

@@ -1,0 +1,12 @@
+-- `board::layout::store_words` meets its contract. Assumes nothing.
+use mathlib.Core.Path.{refl}
+use Prim.Native.Nat.{◌-◌}
+use Rattle.board.specs.Layout.{store_at, lines_none, lines_more}
+use Rattle.std.proofs.Common.{rules}
+use Rattle.board.proofs.layout.store_words.Goals as goal
+
+pub loop-i-init : goal.loop-i-init
+loop-i-init c = lines_none store_at _ _ _ _ refl
+
+pub loop-i-preserved : goal.loop-i-preserved
+loop-i-preserved c = lines_more store_at _ _ _ _ _ _ _ c.loop-i.invariant (search rules) refl
