@@ -1,33 +1,36 @@
 // The bench on many lists: every way to stop, the most records and one byte more, and a list that reaches every report that the bench can print. Lists of calls
 // are written in document 01's notation. Each list's name is printed, and behind it what the bench prints of the list.
-use libc::STDOUT_FILENO;
+#![tactic(auto)]
+
+use std::io::Print;
+use std::rt::HostRuntime;
 use table::Table;
 use translation::Outcome;
 
-fn text(words: &[u8]) {
-    io::write_all(STDOUT_FILENO, words);
+fn text(rt: &HostRuntime, words: &[u8]) {
+    let _ = rt.stdout().write_all(words);
 }
 
-fn title(name: &[u8]) {
-    text(b"# ");
-    text(name);
-    text(b"\n");
+fn title(rt: &HostRuntime, name: &[u8]) {
+    text(rt, b"# ");
+    text(rt, name);
+    text(rt, b"\n");
 }
 
-fn number(n: u32) {
-    io::print_decimal(STDOUT_FILENO, n as u64);
+fn number(rt: &HostRuntime, n: u32) {
+    let _ = print!(rt; "{n}");
 }
 
 // Prints the first bytes of the line.
-fn print(line: &[u8; 40], length: usize) {
+fn print(rt: &HostRuntime, line: &[u8; 40], length: usize) {
     let bytes: &[u8] = line;
     if length <= 40 {
-        io::write_all(STDOUT_FILENO, &bytes[..length]);
+        let _ = rt.stdout().write_all(&bytes[..length]);
     }
 }
 
 // Plays a list. Where it is long, the lines but the last are counted and not printed.
-fn play(list: &[u8], long: bool) {
+fn play(rt: &HostRuntime, list: &[u8], long: bool) {
     let mut stores = bench_run::blank();
     let mut line = [0u8; 40];
     let mut table = Table::zeros();
@@ -36,35 +39,35 @@ fn play(list: &[u8], long: bool) {
         let next = bench_run::next(list, place, table, &mut stores, &mut line);
         let ends = next.ends;
         if ends {
-            counted(long, place);
-            print(&line, next.length);
+            counted(rt, long, place);
+            print(rt, &line, next.length);
             return;
         }
-        passed(long, &line, next.length);
+        passed(rt, long, &line, next.length);
         table = next.table;
         place = next.place;
     }
 }
 
 // A line that is not the last.
-fn passed(long: bool, line: &[u8; 40], length: usize) {
+fn passed(rt: &HostRuntime, long: bool, line: &[u8; 40], length: usize) {
     if !long {
-        print(line, length);
+        print(rt, line, length);
     }
 }
 
 // The number of records up to a place, where they are counted.
-fn counted(long: bool, place: usize) {
+fn counted(rt: &HostRuntime, long: bool, place: usize) {
     if long {
-        io::print_decimal(STDOUT_FILENO, (place / texts::RECORD_LENGTH) as u64);
-        text(b" lines\n");
+        let lines = place / texts::RECORD_LENGTH;
+        let _ = println!(rt; "{lines} lines");
     }
 }
 
 // Plays the first n bytes.
-fn play_first(list: &[u8], n: usize, long: bool) {
+fn play_first(rt: &HostRuntime, list: &[u8], n: usize, long: bool) {
     if n <= list.len() {
-        play(&list[..n], long);
+        play(rt, &list[..n], long);
     }
 }
 
@@ -83,11 +86,11 @@ fn three(list: &mut [u8]) -> usize {
 }
 
 // The second record is short.
-fn short() {
-    title(b"a record of 18 bytes");
+fn short(rt: &HostRuntime) {
+    title(rt, b"a record of 18 bytes");
     let mut list = [0u8; 57];
     three(&mut list);
-    play_first(&list, 37, false);
+    play_first(rt, &list, 37, false);
 }
 
 fn put(list: &mut [u8], at: usize, byte: u8) {
@@ -97,61 +100,61 @@ fn put(list: &mut [u8], at: usize, byte: u8) {
 }
 
 // A byte of the second record is another one.
-fn changed(name: &[u8], at: usize, byte: u8) {
-    title(name);
+fn changed(rt: &HostRuntime, name: &[u8], at: usize, byte: u8) {
+    title(rt, name);
     let mut list = [0u8; 57];
     let n = three(&mut list);
     put(&mut list, at, byte);
-    play_first(&list, n, false);
+    play_first(rt, &list, n, false);
 }
 
-fn one(code: u8, a: u32, b: u32, c: u32, d: u32) {
+fn one(rt: &HostRuntime, code: u8, a: u32, b: u32, c: u32, d: u32) {
     let mut list = [0u8; 19];
     let n = record_bytes::write_record(&mut list, 0, code, a, b, c, d);
-    play_first(&list, n, false);
+    play_first(rt, &list, n, false);
 }
 
 // A call that takes so many numbers, with another number than 0 in each place behind them.
-fn unused(code: u8, count: u32) {
-    text(b"# numbers that call ");
-    number(code as u32);
-    text(b" lacks\n");
+fn unused(rt: &HostRuntime, code: u8, count: u32) {
+    text(rt, b"# numbers that call ");
+    number(rt, code as u32);
+    text(rt, b" lacks\n");
     if count < 1 {
-        one(code, 1, 0, 0, 0);
+        one(rt, code, 1, 0, 0, 0);
     }
     if count < 2 {
-        one(code, 0, 256, 0, 0);
+        one(rt, code, 0, 256, 0, 0);
     }
     if count < 3 {
-        one(code, 0, 0, 65536, 0);
+        one(rt, code, 0, 0, 65536, 0);
     }
     if count < 4 {
-        one(code, 0, 0, 0, 16777216);
+        one(rt, code, 0, 0, 0, 16777216);
     }
 }
 
-fn unused_numbers() {
-    unused(0, 4);
-    unused(1, 0);
-    unused(2, 1);
-    unused(3, 2);
-    unused(4, 1);
-    unused(5, 1);
-    unused(6, 1);
-    unused(7, 1);
-    unused(8, 2);
-    unused(9, 2);
-    unused(10, 1);
-    unused(11, 2);
-    unused(12, 1);
-    unused(13, 1);
-    unused(14, 2);
-    unused(15, 1);
+fn unused_numbers(rt: &HostRuntime) {
+    unused(rt, 0, 4);
+    unused(rt, 1, 0);
+    unused(rt, 2, 1);
+    unused(rt, 3, 2);
+    unused(rt, 4, 1);
+    unused(rt, 5, 1);
+    unused(rt, 6, 1);
+    unused(rt, 7, 1);
+    unused(rt, 8, 2);
+    unused(rt, 9, 2);
+    unused(rt, 10, 1);
+    unused(rt, 11, 2);
+    unused(rt, 12, 1);
+    unused(rt, 13, 1);
+    unused(rt, 14, 2);
+    unused(rt, 15, 1);
 }
 
 // 3,000 records of call 1, and so many bytes more.
-fn most(name: &[u8], more: usize) {
-    title(name);
+fn most(rt: &HostRuntime, name: &[u8], more: usize) {
+    title(rt, name);
     let mut list = [0u8; 57001];
     let mut at: usize = 0;
     let mut i: u32 = 0;
@@ -160,13 +163,13 @@ fn most(name: &[u8], more: usize) {
         i += 1;
     }
     if more <= 1 {
-        play_first(&list, 57000 + more, true);
+        play_first(rt, &list, 57000 + more, true);
     }
 }
 
 // Every report that the bench can print: all but 3, which is not used, and 11, since no size gives a total below 16.
-fn reports() {
-    title(b"every report");
+fn reports(rt: &HostRuntime) {
+    title(rt, b"every report");
     let mut list = [0u8; 2000];
     let n = load(
         b"1() 0(4096,15,8192,64) 0(4096,4097,8192,64) 0(4096,1600,8192,400) 14(1,4096) 8(2,1) 4(5) 12(1000)
@@ -177,20 +180,20 @@ fn reports() {
         12(0) 12(0) 12(0) 12(0) 12(0) 12(0) 12(0) 12(0) 12(0) 12(0) 12(0) 12(0) 12(0) 12(0) 12(0) 12(0)",
         &mut list,
     );
-    play_first(&list, n, false);
+    play_first(rt, &list, n, false);
 }
 
-fn main() {
+fn main(rt: HostRuntime) {
     let none = [0u8; 1];
-    title(b"no bytes");
-    play_first(&none, 0, false);
-    short();
-    changed(b"another first byte of the mark", 19, 78);
-    changed(b"another second byte of the mark", 20, 84);
-    changed(b"code 16", 21, 16);
-    changed(b"code 255", 21, 255);
-    unused_numbers();
-    most(b"3,000 records", 0);
-    most(b"3,000 records and a byte", 1);
-    reports();
+    title(&rt, b"no bytes");
+    play_first(&rt, &none, 0, false);
+    short(&rt);
+    changed(&rt, b"another first byte of the mark", 19, 78);
+    changed(&rt, b"another second byte of the mark", 20, 84);
+    changed(&rt, b"code 16", 21, 16);
+    changed(&rt, b"code 255", 21, 255);
+    unused_numbers(&rt);
+    most(&rt, b"3,000 records", 0);
+    most(&rt, b"3,000 records and a byte", 1);
+    reports(&rt);
 }
