@@ -29,6 +29,7 @@ fn all_listed(threads: Threads, stores: Stores) -> bool
 }
 
 // Rule 5.
+#[tactic(auto, unfolding(meaning::specs::Rules::threads_placed))]
 pub fn threads_placed(threads: Threads, stores: Stores) -> bool
     ensures { result ≡ threads_placed (stores_of stores) (threads_of threads) }
 {

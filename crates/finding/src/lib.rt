@@ -1,5 +1,7 @@
 // Call 7: the deepest store whose total holds an address, found by going down from the root: the child of a store that holds the address is looked for,
 // and the search goes on in it. Whatever the lines say, each step down goes to a later line.
+#![tactic(auto)]
+
 ghost use Rattle.std.specs.Prelude.{◌≡◌, ◌≤◌, drop};
 ghost use Rattle.lines.specs.Shape.{live};
 ghost use Rattle.meaning.specs.Model.{◌holds◌, whole};

@@ -22,6 +22,7 @@ fn wholly_in(area: Area, address: u32, n: u32) -> bool
 }
 
 // The report, by the checks in their order.
+#[tactic(auto, unfolding(meaning::specs::RunQuestion::area_checks, meaning::specs::Reports::first_report))]
 pub fn report(
     first: Area,
     second: Area,

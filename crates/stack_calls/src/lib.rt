@@ -19,6 +19,7 @@ pub struct Piled {
 }
 
 // Call 12. A run that cannot be shortened keeps its length: its start would pass 32 bits, on an unsound table only.
+#[tactic(auto, using(crate::specs::FreeRun::not_cut, crate::specs::FreeRun::was_cut), unfolding(crate::specs::StackCalls::piled, meaning::specs::Calls::row, meaning::specs::Calls::checks, meaning::specs::Calls::change, meaning::specs::Reports::first_report))]
 pub fn make_stack(stacks: Stacks, area: Area, free: Area, n: u32) -> Piled
     ensures { seen result ≡ piled area stacks free (make_stack n) }
 {
@@ -45,6 +46,7 @@ pub fn make_stack(stacks: Stacks, area: Area, free: Area, n: u32) -> Piled
 }
 
 // Call 13. The joined run is longer than 32 bits on an unsound table only.
+#[tactic(auto, unfolding(crate::specs::StackCalls::piled, meaning::specs::Calls::row, meaning::specs::Calls::checks, meaning::specs::Calls::change, meaning::specs::Reports::first_report))]
 pub fn destroy_stack(stacks: Stacks, area: Area, free: Area, stack: StackId) -> Piled
     ensures { seen result ≡ piled area stacks free (destroy_stack stack.0) }
 {

@@ -32,6 +32,7 @@ pub fn context(threads: Threads, thread: ThreadId) -> Reply
 }
 
 // Call 3.
+#[tactic(auto, unfolding(crate::specs::ThreadCalls::threads_after, meaning::specs::Calls::row, meaning::specs::Calls::checks, meaning::specs::Calls::change, meaning::specs::Reports::first_report))]
 pub fn set_context(threads: Threads, stores: Stores, thread: ThreadId, store: StoreId) -> Placed
     ensures { seen result ≡ threads_after (stores_of stores) threads (set_context thread.0 store.0) }
 {
@@ -67,6 +68,7 @@ fn with_thread_in(threads: Threads, thread: ThreadId, context: StoreId) -> Threa
 }
 
 // Call 14.
+#[tactic(auto, unfolding(crate::specs::ThreadCalls::threads_after, meaning::specs::Calls::row, meaning::specs::Calls::checks, meaning::specs::Calls::change, meaning::specs::Reports::first_report))]
 pub fn add_thread(threads: Threads, stores: Stores, thread: ThreadId, context: StoreId) -> Placed
     ensures { seen result ≡ threads_after (stores_of stores) threads (add_thread thread.0 context.0) }
 {

@@ -1,4 +1,6 @@
 // The bytes of call 8: all of the block become 0, and no other changes.
+#![tactic(auto)]
+
 ghost use Rattle.std.specs.Prelude.{◌≡◌, ◌+◌, ◌-◌, eqb, if◌then◌else◌};
 ghost use Rattle.meaning.specs.Changes.{zeroed};
 ghost use Rattle.names.specs.Numbers.{number_of};
@@ -7,6 +9,7 @@ ghost use Rattle.names.specs.Overhead.{allocation_overhead, block_taken};
 use names::{Block, Reply};
 
 // The bytes from one offset up to another become 0, as far as the area goes.
+#[tactic(auto, using(crate::specs::Zeroing::zeroed_start, crate::specs::Zeroing::zeroed_past, crate::specs::Zeroing::zeroed_end))]
 fn zero(area: &mut [u8], from: usize, to: usize)
     ensures { area.new ≡ zeroed from (to - from) area.old }
 {

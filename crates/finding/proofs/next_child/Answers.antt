@@ -1,5 +1,4 @@
 -- `finding::next_child` meets its contract: it passes the lines that do not lead down. Assumes nothing.
-use Prim.Native.Nat.{◌-◌}
 use Rattle.finding.specs.Steps.{pass_more}
 use Rattle.std.proofs.Common.{rules}
 use Rattle.finding.proofs.next_child.Goals as goal
