@@ -1,6 +1,7 @@
 // Plays document 01's fifteen cases on the table, each from T0, and prints a line for each call: the case, the call, the report and the value; after a find
 // the steps too.
-use libc::STDOUT_FILENO;
+#![tactic(auto)]
+
 use names::{Area, Report, StackId, StoreId, ThreadId};
 use table::{Answer, Found, Table};
 
@@ -13,130 +14,130 @@ fn t0() -> Table {
     added.table
 }
 
-fn text(words: &[u8]) {
-    io::write_all(STDOUT_FILENO, words);
+fn text(rt: &impl Print, words: &str) {
+    let _ = print!(rt; "{words}");
 }
 
-fn number(n: u32) {
-    text(b" ");
-    io::print_decimal(STDOUT_FILENO, n as u64);
+fn number(rt: &impl Print, n: u32) {
+    let _ = print!(rt; " {n}");
 }
 
-fn line(case: u32, what: &[u8], report: Report, value: u32) {
-    io::print_decimal(STDOUT_FILENO, case as u64);
-    text(b" ");
-    text(what);
-    number(report.number());
-    number(value);
+fn line(rt: &impl Print, case: u32, what: &str, report: Report, value: u32) {
+    let _ = print!(rt; "{case} ");
+    text(rt, what);
+    number(rt, report.number());
+    number(rt, value);
 }
 
 // Prints a call's line and gives the table after it.
-fn say(case: u32, what: &[u8], answer: Answer) -> Table {
+fn say(rt: &impl Print, case: u32, what: &str, answer: Answer) -> Table {
     let report = answer.report;
-    line(case, what, report, answer.value);
-    text(b"\n");
+    line(rt, case, what, report, answer.value);
+    text(rt, "\n");
     answer.table
 }
 
-fn say_found(case: u32, found: Found) {
+fn say_found(rt: &impl Print, case: u32, found: Found) {
     let report = found.report;
-    line(case, b"find", report, found.value);
-    number(found.steps);
-    text(b"\n");
+    line(rt, case, "find", report, found.value);
+    number(rt, found.steps);
+    text(rt, "\n");
 }
 
 // The bytes of the store area play no part in what is printed.
-fn allocate(case: u32, table: Table, thread: u32, n: u32) -> Table {
+fn allocate(rt: &impl Print, case: u32, table: Table, thread: u32, n: u32) -> Table {
     let mut bytes: [u8; 256] = [0; 256];
     let answer = table.allocate(&mut bytes, ThreadId(thread), n);
-    say(case, b"allocate", answer)
+    say(rt, case, "allocate", answer)
 }
 
-fn make_store(case: u32, table: Table, n: u32) -> Table {
-    say(case, b"make store", table.make_store(ThreadId(1), n))
+fn make_store(rt: &impl Print, case: u32, table: Table, n: u32) -> Table {
+    say(rt, case, "make store", table.make_store(ThreadId(1), n))
 }
 
-fn resize(case: u32, table: Table, store: u32, n: u32) -> Table {
-    say(case, b"resize", table.resize(StoreId(store), n))
+fn resize(rt: &impl Print, case: u32, table: Table, store: u32, n: u32) -> Table {
+    say(rt, case, "resize", table.resize(StoreId(store), n))
 }
 
-fn clear(case: u32, table: Table) -> Table {
-    say(case, b"clear", table.clear(ThreadId(1)))
+fn clear(rt: &impl Print, case: u32, table: Table) -> Table {
+    say(rt, case, "clear", table.clear(ThreadId(1)))
 }
 
-fn root_free(case: u32, table: Table) {
-    say(case, b"free", table.free(StoreId(4096)));
+fn root_free(rt: &impl Print, case: u32, table: Table) {
+    say(rt, case, "free", table.free(StoreId(4096)));
 }
 
-fn sizes() {
-    root_free(1, allocate(1, t0(), 1, 236));
-    allocate(2, t0(), 1, 237);
-    root_free(3, make_store(3, t0(), 224));
-    make_store(4, t0(), 225);
-    allocate(5, t0(), 1, 4294967295);
-    allocate(6, t0(), 2, 1);
-    resize(7, t0(), 4096, 0);
+fn sizes(rt: &impl Print) {
+    root_free(rt, 1, allocate(rt, 1, t0(), 1, 236));
+    allocate(rt, 2, t0(), 1, 237);
+    root_free(rt, 3, make_store(rt, 3, t0(), 224));
+    make_store(rt, 4, t0(), 225);
+    allocate(rt, 5, t0(), 1, 4294967295);
+    allocate(rt, 6, t0(), 2, 1);
+    resize(rt, 7, t0(), 4096, 0);
 }
 
-fn addresses() {
-    let inner = make_store(8, t0(), 0);
-    say_found(8, inner.find(4112));
+fn addresses(rt: &impl Print) {
+    let inner = make_store(rt, 8, t0(), 0);
+    say_found(rt, 8, inner.find(4112));
     let t = t0();
-    say_found(9, t.find(4351));
-    say_found(9, t.find(4352));
+    say_found(rt, 9, t.find(4351));
+    say_found(rt, 9, t.find(4352));
 }
 
-fn children() {
-    let one = make_store(10, t0(), 10);
-    let two = make_store(10, one, 10);
-    resize(10, two, 4138, 5);
-    let store = make_store(11, t0(), 10);
-    let block = allocate(11, store, 1, 0);
-    resize(11, block, 4112, 10);
+fn children(rt: &impl Print) {
+    let one = make_store(rt, 10, t0(), 10);
+    let two = make_store(rt, 10, one, 10);
+    resize(rt, 10, two, 4138, 5);
+    let store = make_store(rt, 11, t0(), 10);
+    let block = allocate(rt, 11, store, 1, 0);
+    resize(rt, 11, block, 4112, 10);
 }
 
 // The table still is T0: nothing is used, and the thread is where it was.
-fn clears() {
-    let same = clear(12, t0());
-    say(12, b"used", same.used(StoreId(4096)));
-    say(12, b"context", same.context(ThreadId(1)));
-    let store = make_store(13, t0(), 40);
+fn clears(rt: &impl Print) {
+    let same = clear(rt, 12, t0());
+    say(rt, 12, "used", same.used(StoreId(4096)));
+    say(rt, 12, "context", same.context(ThreadId(1)));
+    let store = make_store(rt, 13, t0(), 40);
     let added = say(
+        rt,
         13,
-        b"add thread",
+        "add thread",
         store.add_thread(ThreadId(2), StoreId(4112)),
     );
-    clear(13, added);
+    clear(rt, 13, added);
 }
 
-fn make_stack(table: Table) -> Table {
-    say(14, b"make stack", table.make_stack(8))
+fn make_stack(rt: &impl Print, table: Table) -> Table {
+    say(rt, 14, "make stack", table.make_stack(8))
 }
 
-fn destroy(table: Table, stack: u32) -> Table {
-    say(14, b"destroy stack", table.destroy_stack(StackId(stack)))
+fn destroy(rt: &impl Print, table: Table, stack: u32) -> Table {
+    say(rt, 14, "destroy stack", table.destroy_stack(StackId(stack)))
 }
 
-fn stacks_in_a_row() {
-    let three = make_stack(make_stack(make_stack(t0())));
-    destroy(destroy(three, 8208), 8224);
+fn stacks_in_a_row(rt: &impl Print) {
+    let three = make_stack(rt, make_stack(rt, make_stack(rt, t0())));
+    destroy(rt, destroy(rt, three, 8208), 8224);
 }
 
-fn start(length: u32) {
+fn start(rt: &impl Print, length: u32) {
     let t = t0();
     say(
+        rt,
         15,
-        b"start",
+        "start",
         t.start(Area::new(4096, length), Area::new(8192, 64)),
     );
 }
 
-fn main() {
-    sizes();
-    addresses();
-    children();
-    clears();
-    stacks_in_a_row();
-    start(15);
-    start(16);
+fn main(rt: HostRuntime) {
+    sizes(&rt);
+    addresses(&rt);
+    children(&rt);
+    clears(&rt);
+    stacks_in_a_row(&rt);
+    start(&rt, 15);
+    start(&rt, 16);
 }

@@ -1,7 +1,8 @@
 // Forges a sound table one rule at a time and prints the lowest rule that each forgery breaks. The earlier versions' failures are among them.
+#![tactic(auto)]
+
 ghost use Rattle.std.specs.Prelude.{◌<◌};
 
-use libc::STDOUT_FILENO;
 use names::{Area, Stack, StackId, Store, StoreId, Thread, ThreadId};
 use stacks::Stacks;
 use stores::Stores;
@@ -112,134 +113,158 @@ fn with_run(start: u32, length: u32) -> Table {
     t
 }
 
-fn say(what: &[u8], t: Table) {
-    io::print_decimal(STDOUT_FILENO, t.broken_rule() as u64);
-    io::write_all(STDOUT_FILENO, b" ");
-    io::write_all(STDOUT_FILENO, what);
-    io::write_all(STDOUT_FILENO, b"\n");
+fn say(rt: &impl Print, what: &str, t: Table) {
+    let rule = t.broken_rule();
+    let _ = println!(rt; "{rule} {what}");
 }
 
-fn areas() {
+fn areas(rt: &impl Print) {
     say(
-        b"store area of 15",
+        rt,
+        "store area of 15",
         with_areas(Area::new(4096, 15), Area::new(8192, 256)),
     );
     say(
-        b"store area of 16,777,217",
+        rt,
+        "store area of 16,777,217",
         with_areas(Area::new(4096, 16777217), Area::new(33554432, 256)),
     );
     say(
-        b"stack area past the last end",
+        rt,
+        "stack area past the last end",
         with_areas(Area::new(4096, 1024), Area::new(2147483648, 1)),
     );
     say(
-        b"sum of start and length past 32 bits",
+        rt,
+        "sum of start and length past 32 bits",
         with_areas(Area::new(4294967295, 1024), Area::new(8192, 256)),
     );
     say(
-        b"areas that share an address",
+        rt,
+        "areas that share an address",
         with_areas(Area::new(4096, 1024), Area::new(5119, 256)),
     );
 }
 
-fn roots() {
+fn roots(rt: &impl Print) {
     say(
-        b"root smaller than the area",
+        rt,
+        "root smaller than the area",
         with_store(0, store(4096, 1023, 300, 4096)),
     );
     say(
-        b"root with another parent",
+        rt,
+        "root with another parent",
         with_store(0, store(4096, 1024, 300, 4112)),
     );
-    say(b"no store at all", with_store_count(0));
+    say(rt, "no store at all", with_store_count(0));
 }
 
-fn lines_of_stores() {
+fn lines_of_stores(rt: &impl Print) {
     say(
-        b"two stores of one start",
+        rt,
+        "two stores of one start",
         with_store(2, store(4112, 36, 0, 4096)),
     );
     say(
-        b"parent that points forward",
+        rt,
+        "parent that points forward",
         with_store(1, store(4112, 116, 40, 4228)),
     );
     say(
-        b"store that is its own parent",
+        rt,
+        "store that is its own parent",
         with_store(1, store(4112, 116, 40, 4112)),
     );
     say(
-        b"line left of a cleared nest",
+        rt,
+        "line left of a cleared nest",
         with_store(1, store(4113, 16, 0, 4096)),
     );
-    say(b"store of 15", with_store(3, store(4228, 15, 0, 4096)));
-    say(b"count past the lines in use", with_store_count(5));
+    say(rt, "store of 15", with_store(3, store(4228, 15, 0, 4096)));
+    say(rt, "count past the lines in use", with_store_count(5));
 }
 
-fn rooms() {
+fn rooms(rt: &impl Print) {
     say(
-        b"store grown through its parent's end",
+        rt,
+        "store grown through its parent's end",
         with_store(2, store(4128, 200, 0, 4112)),
     );
     say(
-        b"used that counts room nobody has",
+        rt,
+        "used that counts room nobody has",
         with_store(3, store(4228, 100, 85, 4096)),
     );
     say(
-        b"child in its parent's free part",
+        rt,
+        "child in its parent's free part",
         with_store(3, store(4400, 100, 0, 4096)),
     );
     say(
-        b"child in its parent's overhead",
+        rt,
+        "child in its parent's overhead",
         with_store(2, store(4127, 36, 0, 4112)),
     );
     say(
-        b"siblings that overlap, not neighbours in the list",
+        rt,
+        "siblings that overlap, not neighbours in the list",
         with_store(3, store(4227, 100, 0, 4096)),
     );
     say(
-        b"total whose end passes 32 bits",
+        rt,
+        "total whose end passes 32 bits",
         with_store(3, store(4228, 4294967295, 0, 4096)),
     );
 }
 
-fn contexts() {
-    say(b"threads that do not rise", with_thread(1, thread(1, 4112)));
+fn contexts(rt: &impl Print) {
     say(
-        b"context that is not listed",
+        rt,
+        "threads that do not rise",
+        with_thread(1, thread(1, 4112)),
+    );
+    say(
+        rt,
+        "context that is not listed",
         with_thread(2, thread(9, 4129)),
     );
 }
 
-fn stacks() {
-    say(b"stack of 7", with_stack(0, stack(8192, 7)));
-    say(b"stack outside the area", with_stack(1, stack(8401, 48)));
-    say(b"stack in the free run", with_stack(0, stack(8192, 33)));
-    say(b"two stacks that overlap", with_stack(0, stack(8390, 32)));
+fn stacks(rt: &impl Print) {
+    say(rt, "stack of 7", with_stack(0, stack(8192, 7)));
+    say(rt, "stack outside the area", with_stack(1, stack(8401, 48)));
+    say(rt, "stack in the free run", with_stack(0, stack(8192, 33)));
+    say(
+        rt,
+        "two stacks that overlap",
+        with_stack(0, stack(8390, 32)),
+    );
 }
 
-fn runs() {
-    say(b"free run a byte short", with_run(8224, 175));
-    say(b"free run outside the area", with_run(8448, 176));
-    say(b"empty run not at the area's end", with_run(8224, 0));
+fn runs(rt: &impl Print) {
+    say(rt, "free run a byte short", with_run(8224, 175));
+    say(rt, "free run outside the area", with_run(8448, 176));
+    say(rt, "empty run not at the area's end", with_run(8224, 0));
 }
 
-fn counts() {
-    say(b"all 32 threads", with_all_threads(32));
-    say(b"33 threads", with_all_threads(33));
-    say(b"4,294,967,295 threads", with_all_threads(4294967295));
-    say(b"store past the count", with_store(4, store(0, 0, 1, 0)));
-    say(b"thread past the count", with_thread(31, thread(0, 1)));
-    say(b"stack past the count", with_stack(2, stack(1, 0)));
+fn counts(rt: &impl Print) {
+    say(rt, "all 32 threads", with_all_threads(32));
+    say(rt, "33 threads", with_all_threads(33));
+    say(rt, "4,294,967,295 threads", with_all_threads(4294967295));
+    say(rt, "store past the count", with_store(4, store(0, 0, 1, 0)));
+    say(rt, "thread past the count", with_thread(31, thread(0, 1)));
+    say(rt, "stack past the count", with_stack(2, stack(1, 0)));
 }
 
-fn main() {
-    say(b"nothing forged", sound());
-    areas();
-    roots();
-    lines_of_stores();
-    rooms();
-    contexts();
-    stacks();
-    runs();
-    counts();
+fn main(rt: HostRuntime) {
+    say(&rt, "nothing forged", sound());
+    areas(&rt);
+    roots(&rt);
+    lines_of_stores(&rt);
+    rooms(&rt);
+    contexts(&rt);
+    stacks(&rt);
+    runs(&rt);
+    counts(&rt);
 }
