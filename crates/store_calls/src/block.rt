@@ -3,7 +3,7 @@ ghost use Rattle.std.specs.Prelude.{◌≡◌};
 ghost use Rattle.meaning.specs.Calls.{allocate};
 ghost use Rattle.store_calls.specs.StoreCalls.{seen, roomed};
 
-use crate::lines::{block_value, context_line};
+use crate::line::{block_value, context_line};
 use crate::room::{Roomed, accepted, refused};
 use names::{Block, Report, TOO_HIGH, ThreadId};
 use size_calls::free_of;

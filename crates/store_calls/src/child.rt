@@ -3,7 +3,7 @@ ghost use Rattle.std.specs.Prelude.{◌≡◌};
 ghost use Rattle.meaning.specs.Calls.{make_store};
 ghost use Rattle.store_calls.specs.StoreCalls.{seen, roomed};
 
-use crate::lines::{context_line, free_start};
+use crate::line::{context_line, free_start};
 use crate::room::{Roomed, accepted, refused};
 use names::{Report, Store, StoreId, TOO_HIGH, ThreadId};
 use size_calls::free_of;

@@ -5,7 +5,7 @@
 mod block;
 mod child;
 mod clearing;
-mod lines;
+mod line;
 mod resizing;
 mod room;
 

@@ -8,7 +8,7 @@ ghost use Rattle.threads.specs.Threads.{written as threads_written};
 ghost use Rattle.stores.specs.Stores.{reading as stores_of};
 ghost use Rattle.store_calls.specs.StoreCalls.{seen, roomed, resized};
 
-use crate::lines::{free_start, resized_used};
+use crate::line::{free_start, resized_used};
 use crate::room::{Roomed, accepted, refused};
 use names::{Report, Store, StoreId, TOO_HIGH};
 use size_calls::free_of;
