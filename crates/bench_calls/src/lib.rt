@@ -1,4 +1,6 @@
 // One record of the call list on the bench: identifiers are made from its raw numbers, and the call is made on the table.
+#![tactic(auto)]
+
 ghost use Rattle.std.specs.Prelude.{◌≡◌, min};
 ghost use Rattle.call_list.specs.Decoded.{entry_of};
 ghost use Rattle.meaning.specs.Calls.{allocate};

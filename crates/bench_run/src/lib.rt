@@ -1,4 +1,6 @@
 // The bench: a call list played on the manager, line by line.
+#![tactic(auto)]
+
 ghost use Rattle.std.specs.Prelude.{true, ◌≡◌, ◌≤◌, length};
 ghost use Rattle.answer_text.specs.Text.{answer_text, stop_text};
 ghost use Rattle.texts.specs.Buffer.{overwritten};

@@ -1,5 +1,7 @@
 // The words of the manager: three kinds of identifier, the report, the lines of the table with the three overheads, and the
 // first number past 32 bits. What a table is made of is laid out as C lays it out, `#[repr(C)]`, here and in the lists: `board` hands it to C.
+#![tactic(auto)]
+
 mod ids;
 mod lines;
 mod report;

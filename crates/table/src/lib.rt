@@ -1,4 +1,6 @@
 // The table that the board holds, and whether it is sound.
+#![tactic(auto)]
+
 ghost use Rattle.std.specs.Prelude.{◌≡◌};
 ghost use Rattle.table.specs.Table.{all_clean, zero_table, broken_rule, sound_table};
 

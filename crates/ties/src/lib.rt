@@ -1,5 +1,7 @@
 // Each method of the table, called once, with its promise said as `Handed`: so the three demands, which are about all that is `Handed`, are about the code. Nothing here
 // is for other crates.
+#![tactic(auto)]
+
 ghost use Rattle.meaning.specs.Calls.{start, root, context_of, set_context, total_of, used_of, free_of, allocate, make_store, clear, resize, make_stack, destroy_stack, add_thread, remove_thread};
 ghost use Rattle.meaning.specs.Reading.{run_of};
 ghost use Rattle.promises.specs.Handed.{Handed};

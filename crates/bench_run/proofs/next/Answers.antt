@@ -1,5 +1,5 @@
 -- `bench_run::next` meets its contract: nothing is left, too many records, a stop, or the answer to a call. Assumes nothing.
-use Rattle.std.proofs.Common.{◌≡◌, ℕ, refl, sym, ◌∙◌, ap}
+use Rattle.std.proofs.Common.{ℕ, refl, sym, ◌∙◌, ap}
 use borrow.Author.Tests.{not-true, not-false}
 use Rattle.call_list.specs.Records.{Entry, record_at}
 use Rattle.bench_calls.specs.Steps.{stepped, stores_after}
@@ -16,7 +16,7 @@ pub returns-then-place-ge-LIST : goal.returns-then-place-ge-LIST
 returns-then-place-ge-LIST c =
     let a = c.args in
     let s = shows_stop (line_at a.list.now a.place a.table a.stores.now) last_place a.place a.table a.stores.now a.stores.now c.ended-then-place-ge-LIST.result c.put_stop.result a.line.now c.put_stop.new.line
-          (line_many _ _ _ _ c.if-list-place.false c.if-place-ge-LIST.true) c.ended-then-place-ge-LIST.ensures c.put_stop.ensures refl in
+    (line_many _ _ _ _ c.if-list-place.false c.if-place-ge-LIST.true) c.ended-then-place-ge-LIST.ensures c.put_stop.ensures refl in
     record { told = s.0; text = s.1.0; bytes = s.1.1.0; fits = s.1.1.1 }
 
 pub returns-then-not-done : goal.returns-then-not-done
@@ -26,7 +26,7 @@ returns-then-not-done c =
     let told = c.step-done.ensures.told ∙ ap (stepped a.table a.stores.now) e in
     let l = stop_line (record_at a.list.now a.place) a.place a.table a.stores.now c.step-done.result told (not-true _ c.if-not-done.true) in
     let s = shows_stop (line_at a.list.now a.place a.table a.stores.now) a.place a.place a.table a.stores.now c.step-done.new.stores c.ended-then-not-done.result c.put_stop-then-not-done.result a.line.now c.put_stop-then-not-done.new.line
-          (line_record _ _ _ _ c.if-list-place.false c.if-place-ge-LIST.false ∙ l.0) c.ended-then-not-done.ensures c.put_stop-then-not-done.ensures (c.step-done.ensures.bytes ∙ ap (stores_after a.table a.stores.now) e ∙ l.1) in
+    (line_record _ _ _ _ c.if-list-place.false c.if-place-ge-LIST.false ∙ l.0) c.ended-then-not-done.ensures c.put_stop-then-not-done.ensures (c.step-done.ensures.bytes ∙ ap (stores_after a.table a.stores.now) e ∙ l.1) in
     record { told = s.0; text = s.1.0; bytes = s.1.1.0; fits = s.1.1.1 }
 
 pub returns : goal.returns
@@ -38,5 +38,5 @@ returns c =
     let l = call_line (record_at a.list.now a.place) a.place a.table a.stores.now d told (not-false _ c.if-not-done.false) in
     let next = ap (λ (x : Entry × ℕ). x.1) c.read_record-taken.ensures ∙ call_next _ _ _ _ (sym (ap (λ x. x.taken) told) ∙ not-false _ c.if-not-done.false) in
     let s = shows_answer (line_at a.list.now a.place a.table a.stores.now) d.code d.report d.value _ c.read_record-taken.result.next d.table _ c.step-done.new.stores c.put_answer-length.result a.line.now c.put_answer-length.new.line
-          (line_record _ _ _ _ c.if-list-place.false c.if-place-ge-LIST.false ∙ l) c.put_answer-length.ensures (c.step-done.ensures.bytes ∙ ap (stores_after a.table a.stores.now) e) next in
+    (line_record _ _ _ _ c.if-list-place.false c.if-place-ge-LIST.false ∙ l) c.put_answer-length.ensures (c.step-done.ensures.bytes ∙ ap (stores_after a.table a.stores.now) e) next in
     record { told = s.0; text = s.1.0; bytes = s.1.1.0; fits = s.1.1.1 }

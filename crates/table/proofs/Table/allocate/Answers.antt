@@ -1,5 +1,5 @@
 -- `Table::allocate` meets its contract: soundness, the lent area's length, then the room on the lists and the block in the area. Assumes nothing.
-use Rattle.std.proofs.Common.{rules, true, false, ◌≡◌, refl, sym, ◌∙◌, ap}
+use Rattle.std.proofs.Common.{rules, true, ◌≡◌, refl, sym, ◌∙◌, ap}
 use Rattle.lines.specs.Shape.{unmapped}
 use Rattle.table.specs.Table.{sound_table, Sized}
 use Rattle.table.specs.Calls.{answer}

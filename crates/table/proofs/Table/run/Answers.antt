@@ -1,5 +1,5 @@
 -- `Table::run` meets its contract: soundness first, then the question on the areas. Assumes nothing.
-use Rattle.std.proofs.Common.{rules, true, false, ◌≡◌, sym, ◌∙◌, arith}
+use Rattle.std.proofs.Common.{rules, false, ◌≡◌, sym, ◌∙◌, arith}
 use Rattle.lines.specs.Shape.{unmapped}
 use Rattle.table.specs.Table.{sound_table, Sized}
 use Rattle.table.specs.Calls.{table_run}
