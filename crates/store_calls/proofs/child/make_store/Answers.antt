@@ -4,7 +4,7 @@ use mathlib.Core.Bool.{true, false}
 use mathlib.Core.Path.{◌≡◌, sym, ◌∙◌}
 use lib.Dec.{ltb}
 use lib.ListN.{length, length-map}
-use borrow.Author.Tests.{lt-ltb, le-ltb, le-leb, lt-leb}
+use borrow.Author.Tests.{lt-ltb, le-ltb, lt-leb}
 use Rattle.lists.specs.Keyed.{has}
 use Rattle.names.specs.Overhead.{store_taken}
 use Rattle.meaning.specs.Model.{thread_name, free, free_part}
