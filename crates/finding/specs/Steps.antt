@@ -35,6 +35,11 @@ module _ (n : ℕ) (ls : List Line) (s a : ℕ) where
     unfolding descend
     pass_more short h b e f = record { low = omega (arith, p.low); same = λ k. p.same k ∙ rw (from_here store_line n ls short i h, sym e ∙ f) }
 
+  -- behind the last line the way is at its end
+  pub end_here : n ≤ length ls → (i k : ℕ) → n ≤ i → descend (drop i (live store_line n ls)) s k a ≡ inside s k
+  unfolding descend
+  end_here short i k h = rw (from_end store_line n ls short i h)
+
   module _ (short : n ≤ length ls) (from i k : ℕ) (r : Next from i) where
     -- no child leads on: here is the answer
     pub way_ends : n ≤ i → inside s k ≡ descend (drop from (live store_line n ls)) s k a

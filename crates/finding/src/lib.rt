@@ -57,6 +57,7 @@ fn next_child(lines: [Store; 64], n: usize, from: usize, store: StoreId, address
 }
 
 // From a store that is so many steps below the root down to the answer, in the lines from a place on.
+#[tactic(auto, using(crate::specs::Steps::end_here, crate::specs::Steps::way_leads))]
 fn descend(
     lines: [Store; 64],
     n: usize,

@@ -10,6 +10,7 @@ use size_calls::free_of;
 use stores::Stores;
 use threads::Threads;
 
+#[tactic(auto, using(stores::specs::Stores::reading_written), unfolding(crate::specs::StoreCalls::roomed, meaning::specs::Calls::row, meaning::specs::Calls::checks, meaning::specs::Calls::change, meaning::specs::Reports::first_report))]
 pub fn make_store(stores: Stores, threads: Threads, thread: ThreadId, n: u32) -> Roomed
     ensures { seen result ≡ roomed stores threads (make_store thread.0 n) }
 {

@@ -9,6 +9,7 @@ use names::{Report, ThreadId};
 use stores::Stores;
 use threads::Threads;
 
+#[tactic(auto, unfolding(crate::specs::StoreCalls::roomed, meaning::specs::Calls::row, meaning::specs::Calls::checks, meaning::specs::Calls::change, meaning::specs::Reports::first_report))]
 pub fn clear(stores: Stores, threads: Threads, thread: ThreadId) -> Roomed
     ensures { seen result ≡ roomed stores threads (clear thread.0) }
 {

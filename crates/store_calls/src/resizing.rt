@@ -15,6 +15,7 @@ use size_calls::free_of;
 use stores::{Stores, end_of};
 
 // The report of call 11, by its checks.
+#[tactic(auto, unfolding(meaning::specs::Calls::checks, meaning::specs::Reports::first_report))]
 fn resize_report(stores: Stores, store: StoreId, n: u32) -> Report
     ensures { number_of result ≡ first_report (checks (stores_alone (stores_of stores) []) [] (resize store.0 n)) }
 {
