@@ -5,7 +5,7 @@ use Rattle.std.proofs.Math.Nat.{pow-le-pow_right}
 use Rattle.io.specs.Counts.{IsPrefixLen}
 use Rattle.io.specs.Digits.{hex_digit_ascii, last_digits, IsDigitCount}
 use Rattle.texts.specs.Decimal.{last_digit, digits_of, decimal}
-use Rattle.texts.specs.DecimalLaws.{digits_one, digits_more, shorter}
+use Rattle.texts.proofs.DecimalLaws.{digits_one, digits_more, shorter}
 
 same_glyph : (n : ℕ) → hex_digit_ascii (n % 10) ≡ last_digit n
 same_glyph n = rw (lt-ltb (n % 10) 10 (mod-lt n (omega arith)))

@@ -12,7 +12,7 @@ use Rattle.list_reader.specs.Read.{after}
 use Rattle.answer_text.specs.Text.{answer_text, stop_text}
 use Rattle.answer_text.specs.TextLaws.{answer_length, stop_length}
 use Rattle.texts.specs.Buffer.{overwritten, placed as written, place_after}
-use Rattle.texts.specs.DecimalLaws.{ten_digits}
+use Rattle.texts.proofs.DecimalLaws.{ten_digits}
 use Rattle.texts.specs.Record.{record_length}
 use Rattle.table.specs.declared.Table.{Table}
 use Rattle.bench_run.specs.declared.Line.{Line}

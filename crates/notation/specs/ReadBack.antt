@@ -13,7 +13,7 @@ use Rattle.lists.specs.Lists.{all}
 use Rattle.lists.specs.Tests.{and_iff}
 use Rattle.texts.specs.Record.{counts}
 use Rattle.texts.specs.Decimal.{decimal, is_digit}
-use Rattle.texts.specs.DecimalLaws.{value_decimal, decimal_digits, decimal_some}
+use Rattle.texts.proofs.DecimalLaws.{value_decimal, decimal_digits, decimal_some}
 use Rattle.notation.specs.Numbers.{front, number_at}
 use Rattle.notation.specs.Notation.{is_blank, past_blanks, stands, ends, argument, closed, arguments, opened, call_at, written}
 use Rattle.notation.specs.Runs.{digit_low}

@@ -1,5 +1,5 @@
 // Numbers in decimals, buffers with bytes in them, and the shape of a record of the bench's call list: the mark, the code of a call, and four numbers. The
-// definitions and laws stand in specs/.
+// definitions and laws stand in specs/, the laws of decimals in proofs/.
 #![tactic(auto)]
 
 // How many bytes a record has.

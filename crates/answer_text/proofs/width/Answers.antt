@@ -1,5 +1,5 @@
 -- `answer_text::width` meets its contract. Assumes nothing.
-use Rattle.texts.specs.DecimalLaws.{ten_digits}
+use Rattle.texts.proofs.DecimalLaws.{ten_digits}
 use Rattle.answer_text.specs.LibraryDigits.{decimal_told}
 use Rattle.answer_text.proofs.width.Goals as goal
 

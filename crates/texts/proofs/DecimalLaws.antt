@@ -65,7 +65,7 @@ some_digit (suc most) n h = simp length-append (omega arith)
 
 pub decimal_some : (n : ℕ) → 0 < length (decimal n)
 unfolding decimal
-decimal_some n = some_digit (suc n) n (omega arith)
+decimal_some n = omega (arith, some_digit (suc n) n (omega arith))
 
 -- ---- no leading zero
 
