@@ -1,6 +1,6 @@
 /*
  * The memory manager, for a virtual machine in C. Link target/staticlib/libboard.a, which
- * `rt staticlib board` builds.
+ * `examples/vm/archive` builds.
  *
  * A table says what is handed out: backing stores, one nested in the other, the threads with the
  * store that each allocates in, and thread stacks. It is a plain value of 1,572 bytes that the

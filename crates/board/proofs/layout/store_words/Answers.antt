@@ -1,6 +1,5 @@
 -- `board::layout::store_words` meets its contract. Assumes nothing.
 use mathlib.Core.Path.{refl}
-use Prim.Native.Nat.{◌-◌}
 use Rattle.board.specs.Layout.{store_at, lines_none, lines_more}
 use Rattle.std.proofs.Common.{rules}
 use Rattle.board.proofs.layout.store_words.Goals as goal

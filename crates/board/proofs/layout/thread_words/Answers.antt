@@ -1,6 +1,5 @@
 -- `board::layout::thread_words` meets its contract. Assumes nothing.
 use mathlib.Core.Path.{refl}
-use Prim.Native.Nat.{◌-◌}
 use Rattle.board.specs.Layout.{thread_at, lines_none, lines_more}
 use Rattle.std.proofs.Common.{rules}
 use Rattle.board.proofs.layout.thread_words.Goals as goal
