@@ -59,6 +59,7 @@ fn found(code: u32, found: Found) -> Stepped
 }
 
 // Call 0: the check for 4, then what the bench can lend, then the manager.
+#[tactic(auto, unfolding(crate::specs::Bench::bench_start, meaning::specs::Reports::first_report))]
 fn start(table: Table, stores: Area, stacks: Area) -> Answer
     ensures { seen result ≡ answer (bench_start table (run_of stores) (run_of stacks)) }
 {

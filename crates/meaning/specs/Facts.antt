@@ -1,4 +1,4 @@
--- The rules of a sound table, 1 to 7, as propositions on a model: document 01, "The table". The tests of Rules.antt decide them (Laws/Agree.antt).
+-- The rules of a sound table, 1 to 7, as propositions on a model: document 01, "The table". The tests of Rules.antt decide them (Laws/Agree.antt of proofs).
 -- Assumes nothing.
 use Rattle.std.specs.Prelude.{List, ◌∷◌, ◌≡◌, ℕ, ◌+◌, ◌<◌, ◌≤◌}
 use Rattle.lists.specs.Lists.{◌∈◌, AllTwo, sum, rest}

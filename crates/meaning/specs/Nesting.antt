@@ -1,5 +1,5 @@
 -- Nested in, depth, and the deepest store that holds an address. Document 01, "The table" and call 7. Each is said twice: as a relation on the parent
--- links, in the document's words, and as a computation up the links, which the calls use. Laws/Nested.antt and Laws/Find.antt prove that they agree.
+-- links, in the document's words, and as a computation up the links, which the calls use. Laws/Nested.antt and Laws/Find.antt of proofs prove that they agree.
 -- Assumes nothing.
 use Rattle.std.specs.Prelude.{Bool, false, ◌&&◌, ◌||◌, List, [], ◌∷◌, ◌≡◌, ℕ, zero, suc, ◌+◌, ltb, eqb, if◌then◌else◌}
 use Rattle.lists.specs.Lists.{◌∈◌, keep, rest}

@@ -1,5 +1,5 @@
 -- The rules of a sound table, 1 to 7, on a model. Document 01, "The table"; rule 8 is about counts and lines past them, so it is the table's.
--- Each rule is a test that computes; Facts.antt says each once more as a proposition, and Laws/Agree.antt proves that they agree. Assumes nothing.
+-- Each rule is a test that computes; Facts.antt says each once more as a proposition, and Laws/Agree.antt of proofs proves that they agree. Assumes nothing.
 use Rattle.std.specs.Prelude.{Bool, false, not, ◌&&◌, ◌||◌, List, [], ◌∷◌, ℕ, ◌+◌, leb, ltb, eqb}
 use Rattle.lists.specs.Lists.{all, all_two, sum, rest}
 use Rattle.lists.specs.Keyed.{rising}

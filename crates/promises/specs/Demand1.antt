@@ -1,6 +1,6 @@
 -- Demand 1: "Every call, on every table and every argument, returns. A forged table (except at a start) and an impossible size are refused by number. A refused
 -- call returns the value 0 and leaves the table and every lent byte as it was." That every call returns is proved of every function by the language.
--- `demand1` of Proof1.antt proves the rest, of every table, every call and all bytes. Assumes nothing.
+-- `demand1` of Proof1.antt of proofs proves the rest, of every table, every call and all bytes. Assumes nothing.
 use Rattle.std.specs.Prelude.{Bool, true, false, not, ◌≡◌, ltb}
 use Rattle.names.specs.Numbers.{number_of}
 use Rattle.names.specs.Overhead.{block_taken, store_taken, stack_taken}

@@ -1,5 +1,5 @@
 -- Demand 2: "On a sound table each call answers and changes the table exactly as documents 000 and 01 say. Each refusal is given exactly when its condition
--- holds and no earlier one does." What a refusal leaves is in demand 1. `demand2` of Proof2.antt proves it of every table whose arrays are as long as they are
+-- holds and no earlier one does." What a refusal leaves is in demand 1. `demand2` of Proof2.antt of proofs proves it of every table whose arrays are as long as they are
 -- declared (`Sized`), where the table is sound or the call is a start. Assumes nothing.
 use Rattle.std.specs.Prelude.{true, ◌↔◌, ◌≡◌, ℕ}
 use Rattle.names.specs.Numbers.{number_of}

@@ -2,7 +2,7 @@
 -- among them, S neither removed nor resized meanwhile, and the store area's bytes changed by these calls alone. Drop the questions, the refused calls and the
 -- work done inside S; where a thread was placed in a store nested in S, place it in S. The rest, run from the same start, is all accepted with the same
 -- answers, and ends with the same table and the same bytes outside S." What a question is, what work inside S is and where a thread is placed instead are the
--- words of Stretch.antt, asked of what the table reads as at that moment. `demand3` of Proof3.antt proves it of every table whose arrays are as long as they are
+-- words of Stretch.antt, asked of what the table reads as at that moment. `demand3` of Proof3.antt of proofs proves it of every table whose arrays are as long as they are
 -- declared (`Sized`), whatever the rest hands back. Assumes nothing.
 use Rattle.std.specs.Prelude.{Bool, true, not, ◌&&◌, List, [], ◌∷◌, ◌++◌, map, ◌≡◌, ℕ, eqb, if◌then◌else◌}
 use Rattle.lists.specs.Lists.{◌∈◌}

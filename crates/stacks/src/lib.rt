@@ -208,6 +208,7 @@ impl Stacks {
     }
 
     // Rule 8: the count is at most 32, and lines past it hold zeros.
+    #[tactic(auto, unfolding(crate::specs::Stacks::clean))]
     pub fn is_clean(self) -> bool
         ensures { result ≡ clean self }
     {

@@ -395,6 +395,7 @@ impl Stores {
     }
 
     // Rule 8: the count is at most 64, and lines past it hold zeros.
+    #[tactic(auto, unfolding(crate::specs::Stores::clean))]
     pub fn is_clean(self) -> bool
         ensures { result ≡ clean self }
     {

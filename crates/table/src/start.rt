@@ -38,6 +38,7 @@ fn fresh(stores: Area, stacks: Area) -> Table
 
 impl Table {
     // Call 0.
+    #[tactic(auto, using(crate::specs::Started::start_small, crate::specs::Started::start_bad, crate::specs::Started::start_good))]
     pub fn start(self, stores: Area, stacks: Area) -> Answer
         ensures { seen result ≡ answer (called self [] (start (run_of stores) (run_of stacks))) }
     {

@@ -291,6 +291,7 @@ impl Threads {
     }
 
     // Rule 8: the count is at most 32, and lines past it hold zeros.
+    #[tactic(auto, unfolding(crate::specs::Threads::clean))]
     pub fn is_clean(self) -> bool
         ensures { result ≡ clean self }
     {
