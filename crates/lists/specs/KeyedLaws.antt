@@ -18,7 +18,7 @@ module _ {A : Type 0} (key : A → ℕ) where
   ]
 
   pub member_has : (l : List A) {x : A} → x ∈ l → has key l (key x) ≡ true
-  member_has [] {x = x} x3 = elim x3 [ ]
+  member_has [] m = elim m [ ]
   member_has (y ∷ l) {x} (here q) = rw (eq-eqb (key y) (key x) (ap key (sym q)))
   member_has (y ∷ l) {x} (there m) = (unless_iff (eqb (key y) (key x)) (has key l (key x))).1 (λ _. member_has l m)
 
@@ -65,14 +65,14 @@ module _ {A : Type 0} (key : A → ℕ) where
 
   -- in a rising list an element is what its key finds
   pub member_at : (none : ℕ → A) (l : List A) → Rising key l → {x : A} → x ∈ l → at key none l (key x) ≡ x
-  member_at none [] r {x = x} x4 = elim x4 [ ]
+  member_at none [] r m = elim m [ ]
   member_at none (y ∷ l) r (here q) = rw (ap key q, eq-eqb (key y) (key y) refl) (sym q)
   member_at none (y ∷ l) r {x} (there m) = let b = r.0 x m in rw (ne_eqb (key y) (key x) (omega arith)) (member_at none l r.1 m)
 
   -- ---- what holds of every two, by key
 
   pub two_by_key : (R : A → A → Type 0) (l : List A) → Rising key l → AllTwo R l → {x y : A} → x ∈ l → y ∈ l → key x < key y → R x y
-  two_by_key R [] r t {x = x} {y = y} x7 _ k = elim x7 [ ]
+  two_by_key R [] r t m _ k = elim m [ ]
   two_by_key R (z ∷ l) r t {x} {y} (here e) (here f) k = let g = ap key e in let h = ap key f in absurd (omega arith)
   two_by_key R (z ∷ l) r t {x} {y} (here e) (there n) k = rw e (t.0 y n)
   two_by_key R (z ∷ l) r t {x} {y} (there m) (here f) k = let g = ap key f in let b = r.0 x m in absurd (omega arith)

@@ -24,7 +24,7 @@ module _ {A : Type 0} where
   -- and keeps more where an element passes it alone
   pub keep_fewer : (p q : A → Bool) → ((x : A) → p x ≡ true → q x ≡ true) → (l : List A) {x : A} → x ∈ l → p x ≡ false → q x ≡ true
       → length (keep p l) < length (keep q l)
-  keep_fewer p q w [] {x = x} x5 f t = elim x5 [ ]
+  keep_fewer p q w [] m f t = elim m [ ]
   keep_fewer p q w (y ∷ l) {x} (here s) f t =
       let i = keep_weaker p q w l in
       let f : p y ≡ false = rw s at f in

@@ -10,7 +10,7 @@ use Rattle.lists.specs.Tests.{tested, never, and_iff, unless_iff}
 
 module _ {A : Type 0} where
   pub all_member : (p : A → Bool) (l : List A) → all p l ≡ true → (x : A) → x ∈ l → p x ≡ true
-  all_member p [] h x x4 = elim x4 [ ]
+  all_member p [] h x m = elim m [ ]
   all_member p (y ∷ l) h x (here e) = rw e ((and_iff (p y) (all p l)).0 h).0
   all_member p (y ∷ l) h x (there m) = all_member p l ((and_iff (p y) (all p l)).0 h).1 x m
 
@@ -37,7 +37,7 @@ module _ {A : Type 0} where
   ]
 
   pub member_any : (p : A → Bool) (l : List A) {x : A} → x ∈ l → p x ≡ true → any p l ≡ true
-  member_any p [] x4 h = elim x4 [ ]
+  member_any p [] m h = elim m [ ]
   member_any p (y ∷ l) (here q) h = rw (← q, h)
   member_any p (y ∷ l) (there m) h = (unless_iff (p y) (any p l)).1 (λ _. member_any p l m h)
 
@@ -49,7 +49,7 @@ module _ {A : Type 0} where
   ]
 
   pub member_keep : (p : A → Bool) (l : List A) {x : A} → x ∈ l → p x ≡ true → x ∈ keep p l
-  member_keep p [] x4 h = elim x4 [ ]
+  member_keep p [] m h = elim m [ ]
   member_keep p (y ∷ l) (here q) h = rw (← q, h) (here refl)
   member_keep p (y ∷ l) (there m) h = elim (tested (p y)) [
     | inl e ↦ rw e (there (member_keep p l m h))

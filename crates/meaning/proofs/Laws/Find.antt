@@ -36,7 +36,7 @@ module _ (ss : List Store) where
   deepest_first x (s ∷ l) = let a = deeper_most x s.start in let b = deepest_first (deeper ss x s.start) l in omega arith
 
   deepest_most : (x : ℕ) (l : List Store) {s : Store} → s ∈ l → depth ss s.start ≤ depth ss (deepest ss x l)
-  deepest_most x [] {s = s} x3 = elim x3 [ ]
+  deepest_most x [] m = elim m [ ]
   deepest_most x (t ∷ l) (here q) =
       let a = deeper_most x t.start in
       let b = deepest_first (deeper ss x t.start) l in

@@ -1,98 +1,72 @@
 -- `runs::run` meets its contract: an empty part where the report refuses, else the part of the area that holds the address. Assumes nothing.
-use Rattle.std.proofs.Common.{true, false, ◌≡◌, sym, ◌∙◌, ◌-◌, arith, List, ℕ}
-use Rattle.names.specs.declared.lines.Area.{Area}
-use Rattle.meaning.specs.Model.{◌holds◌}
-use Rattle.meaning.specs.Reading.{run_of}
-use Rattle.meaning.specs.Reports.{first_report}
-use Rattle.meaning.specs.RunQuestion.{area_checks}
-use Rattle.runs.specs.Runs.{part_refused, part_first, part_second, in_first, in_second, clipped}
+use Rattle.std.proofs.Common.{◌≡◌, sym, ◌∙◌, ◌-◌, ◌≤◌, arith, length}
+use Rattle.meaning.specs.RunQuestion.{empty_part, of_stores, of_stacks}
+use Rattle.runs.specs.Runs.{part, part_refused, part_first, part_second, in_first, in_second, clipped}
 use Rattle.runs.proofs.run.Goals as goal
+use Rattle.runs.proofs.run.Goals.{Then-number-ne0, Then-holds, Else-holds}
 
--- where the report accepts: the report's checks give 0
-abbrev Accepts : Area → Area → List ℕ → List ℕ → ℕ → ℕ → Type 0
-Accepts first second stores stacks a n = first_report (area_checks (run_of first) (run_of second) stores stacks a n) ≡ 0
+nothing : (c : Then-number-ne0) → part c.args.first c.args.second c.args.stores.now c.args.stacks.now c.args.address c.args.n ≡ empty_part
+nothing c = part_refused _ _ _ _ _ _ _ c.report-given.ensures (λ e. c.if-number-ne0.true (c.number.ensures ∙ e))
 
-pub returns-then-number-ne0-clause-bytes : goal.returns-then-number-ne0-clause-bytes
-returns-then-number-ne0-clause-bytes c = rw (part_refused _ _ _ _ _ _ _ c.report-given.ensures (λ e. c.if-number-ne0.true (c.number.ensures ∙ e)))
+-- where the report accepts and the first area holds the address, the part is of that area, within its bytes
+of_first : (c : Then-holds) → part c.args.first c.args.second c.args.stores.now c.args.stacks.now c.args.address c.args.n ≡ record { area = of_stores; offset = c.args.address - c.args.first.start; length = c.args.n }
+of_first c = part_first _ _ _ _ _ _ (sym c.report-given.ensures ∙ sym c.number.ensures ∙ c.if-number-ne0.false) (sym c.holds.ensures ∙ c.if-holds.true)
 
-pub returns-then-number-ne0-clause-memory : goal.returns-then-number-ne0-clause-memory
-returns-then-number-ne0-clause-memory c = rw (part_refused _ _ _ _ _ _ _ c.report-given.ensures (λ e. c.if-number-ne0.true (c.number.ensures ∙ e)))
+lies_first : (c : Then-holds) → (c.args.first.start ≤ c.args.address) × (c.args.address - c.args.first.start ≤ length c.args.stores.now)
+lies_first c = in_first c.args.first c.args.second c.args.stores.now c.args.stacks.now c.args.address c.args.n (sym c.report-given.ensures ∙ sym c.number.ensures ∙ c.if-number-ne0.false) (sym c.holds.ensures ∙ c.if-holds.true)
 
-pub returns-then-number-ne0-clause-place : goal.returns-then-number-ne0-clause-place
-returns-then-number-ne0-clause-place c = rw (part_refused _ _ _ _ _ _ _ c.report-given.ensures (λ e. c.if-number-ne0.true (c.number.ensures ∙ e))) (omega arith)
+-- and else of the second
+of_second : (c : Else-holds) → part c.args.first c.args.second c.args.stores.now c.args.stacks.now c.args.address c.args.n ≡ record { area = of_stacks; offset = c.args.address - c.args.second.start; length = c.args.n }
+of_second c = part_second _ _ _ _ _ _ (sym c.report-given.ensures ∙ sym c.number.ensures ∙ c.if-number-ne0.false) (sym c.holds.ensures ∙ c.if-holds.false)
+
+lies_second : (c : Else-holds) → (c.args.second.start ≤ c.args.address) × (c.args.address - c.args.second.start ≤ length c.args.stacks.now)
+lies_second c = in_second c.args.first c.args.second c.args.stores.now c.args.stacks.now c.args.address c.args.n (sym c.report-given.ensures ∙ sym c.number.ensures ∙ c.if-number-ne0.false) (sym c.holds.ensures ∙ c.if-holds.false)
+
+pub returns-then-number-ne0 : goal.returns-then-number-ne0
+returns-then-number-ne0 c =
+    let e = nothing (goal.at.returns-then-number-ne0 c).Then-number-ne0 in
+    record { bytes = rw e; memory = rw e; place = rw e (omega arith) }
 
 pub overflow_sub-from : goal.overflow_sub-from
-overflow_sub-from c =
-    let a = c.args in
-    (in_first a.first a.second a.stores.now a.stacks.now a.address a.n (sym c.report-given.ensures ∙ sym c.number.ensures ∙ c.if-number-ne0.false) (sym c.holds.ensures ∙ c.if-holds.true)).0
+overflow_sub-from c = (lies_first (goal.at.overflow_sub-from c).Then-holds).0
 
 pub stop-requires : goal.stop-requires
-stop-requires c =
-    let a = c.args in
-    (in_first a.first a.second a.stores.now a.stacks.now a.address a.n (sym c.report-given.ensures ∙ sym c.number.ensures ∙ c.if-number-ne0.false) (sym c.holds.ensures ∙ c.if-holds.true)).1
+stop-requires c = (lies_first (goal.at.stop-requires c).Then-holds).1
 
 pub slice_bounds-result-count-then-holds : goal.slice_bounds-result-count-then-holds
-slice_bounds-result-count-then-holds c =
-    let a = c.args in
-    omega (arith, c.stop.ensures, (in_first a.first a.second a.stores.now a.stacks.now a.address a.n (sym c.report-given.ensures ∙ sym c.number.ensures ∙ c.if-number-ne0.false) (sym c.holds.ensures ∙ c.if-holds.true)).1)
+slice_bounds-result-count-then-holds c = omega (arith, c.stop.ensures, (lies_first (goal.at.slice_bounds-result-count-then-holds c).Then-holds).1)
 
 pub slice_bounds-result-start-then-holds : goal.slice_bounds-result-start-then-holds
-slice_bounds-result-start-then-holds c =
-    let a = c.args in
-    omega (arith, c.stop.ensures, (in_first a.first a.second a.stores.now a.stacks.now a.address a.n (sym c.report-given.ensures ∙ sym c.number.ensures ∙ c.if-number-ne0.false) (sym c.holds.ensures ∙ c.if-holds.true)).1)
+slice_bounds-result-start-then-holds c = omega (arith, c.stop.ensures, (lies_first (goal.at.slice_bounds-result-start-then-holds c).Then-holds).1)
 
-pub returns-then-holds-clause-bytes : goal.returns-then-holds-clause-bytes
-returns-then-holds-clause-bytes c =
-    let a = c.args in
-    let g : Accepts a.first a.second a.stores.now a.stacks.now a.address a.n = sym c.report-given.ensures ∙ sym c.number.ensures ∙ c.if-number-ne0.false in
-    let h : (run_of a.first holds a.address) ≡ true = sym c.holds.ensures ∙ c.if-holds.true in
-    rw (part_first a.first a.second a.stores.now a.stacks.now a.address a.n g h, c.stop.ensures)
-    (clipped a.stores.now (a.address - a.first.start) a.n (in_first a.first a.second a.stores.now a.stacks.now a.address a.n g h).1)
-
-pub returns-then-holds-clause-memory : goal.returns-then-holds-clause-memory
-returns-then-holds-clause-memory c =
-    let a = c.args in
-    rw (part_first a.first a.second a.stores.now a.stacks.now a.address a.n (sym c.report-given.ensures ∙ sym c.number.ensures ∙ c.if-number-ne0.false) (sym c.holds.ensures ∙ c.if-holds.true))
-
-pub returns-then-holds-clause-place : goal.returns-then-holds-clause-place
-returns-then-holds-clause-place c =
-    let a = c.args in
-    rw (part_first a.first a.second a.stores.now a.stacks.now a.address a.n (sym c.report-given.ensures ∙ sym c.number.ensures ∙ c.if-number-ne0.false) (sym c.holds.ensures ∙ c.if-holds.true)) (omega arith)
+pub returns-then-holds : goal.returns-then-holds
+returns-then-holds c =
+    let a = goal.at.returns-then-holds c in
+    let e = of_first a.Then-holds in
+    record {
+      bytes = rw (e, c.stop.ensures) (clipped c.args.stores.now (c.args.address - c.args.first.start) c.args.n (lies_first a.Then-holds).1);
+      memory = rw e;
+      place = rw e (omega arith);
+    }
 
 pub overflow_sub-from-2 : goal.overflow_sub-from-2
-overflow_sub-from-2 c =
-    let a = c.args in
-    (in_second a.first a.second a.stores.now a.stacks.now a.address a.n (sym c.report-given.ensures ∙ sym c.number.ensures ∙ c.if-number-ne0.false) (sym c.holds.ensures ∙ c.if-holds.false)).0
+overflow_sub-from-2 c = (lies_second (goal.at.overflow_sub-from-2 c).Else-holds).0
 
 pub stop-requires-2 : goal.stop-requires-2
-stop-requires-2 c =
-    let a = c.args in
-    (in_second a.first a.second a.stores.now a.stacks.now a.address a.n (sym c.report-given.ensures ∙ sym c.number.ensures ∙ c.if-number-ne0.false) (sym c.holds.ensures ∙ c.if-holds.false)).1
+stop-requires-2 c = (lies_second (goal.at.stop-requires-2 c).Else-holds).1
 
 pub slice_bounds-result-count-2 : goal.slice_bounds-result-count-2
-slice_bounds-result-count-2 c =
-    let a = c.args in
-    omega (arith, c.stop-2.ensures, (in_second a.first a.second a.stores.now a.stacks.now a.address a.n (sym c.report-given.ensures ∙ sym c.number.ensures ∙ c.if-number-ne0.false) (sym c.holds.ensures ∙ c.if-holds.false)).1)
+slice_bounds-result-count-2 c = omega (arith, c.stop-2.ensures, (lies_second (goal.at.slice_bounds-result-count-2 c).Else-holds).1)
 
 pub slice_bounds-result-start-2 : goal.slice_bounds-result-start-2
-slice_bounds-result-start-2 c =
-    let a = c.args in
-    omega (arith, c.stop-2.ensures, (in_second a.first a.second a.stores.now a.stacks.now a.address a.n (sym c.report-given.ensures ∙ sym c.number.ensures ∙ c.if-number-ne0.false) (sym c.holds.ensures ∙ c.if-holds.false)).1)
+slice_bounds-result-start-2 c = omega (arith, c.stop-2.ensures, (lies_second (goal.at.slice_bounds-result-start-2 c).Else-holds).1)
 
-pub returns-clause-bytes : goal.returns-clause-bytes
-returns-clause-bytes c =
-    let a = c.args in
-    let g : Accepts a.first a.second a.stores.now a.stacks.now a.address a.n = sym c.report-given.ensures ∙ sym c.number.ensures ∙ c.if-number-ne0.false in
-    let h : (run_of a.first holds a.address) ≡ false = sym c.holds.ensures ∙ c.if-holds.false in
-    rw (part_second a.first a.second a.stores.now a.stacks.now a.address a.n g h, c.stop-2.ensures)
-    (clipped a.stacks.now (a.address - a.second.start) a.n (in_second a.first a.second a.stores.now a.stacks.now a.address a.n g h).1)
-
-pub returns-clause-memory : goal.returns-clause-memory
-returns-clause-memory c =
-    let a = c.args in
-    rw (part_second a.first a.second a.stores.now a.stacks.now a.address a.n (sym c.report-given.ensures ∙ sym c.number.ensures ∙ c.if-number-ne0.false) (sym c.holds.ensures ∙ c.if-holds.false))
-
-pub returns-clause-place : goal.returns-clause-place
-returns-clause-place c =
-    let a = c.args in
-    rw (part_second a.first a.second a.stores.now a.stacks.now a.address a.n (sym c.report-given.ensures ∙ sym c.number.ensures ∙ c.if-number-ne0.false) (sym c.holds.ensures ∙ c.if-holds.false)) (omega arith)
+pub returns : goal.returns
+returns c =
+    let a = goal.at.returns c in
+    let e = of_second a.Else-holds in
+    record {
+      bytes = rw (e, c.stop-2.ensures) (clipped c.args.stacks.now (c.args.address - c.args.second.start) c.args.n (lies_second a.Else-holds).1);
+      memory = rw e;
+      place = rw e (omega arith);
+    }
