@@ -1,4 +1,4 @@
-pub mod LibraryDigits
 pub mod Text
 pub mod TextLaws
+pub mod LibraryDigits
 pub mod Examples

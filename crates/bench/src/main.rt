@@ -2,31 +2,29 @@
 // one byte more, the stores that it lends, and one line: 57,001 + 4,096 + 40 bytes, below 64 KiB.
 #![tactic(auto)]
 
-ghost use Rattle.std.specs.Prelude.{◌≤◌};
 ghost use Rattle.io.specs.Counts.{IsPrefixLen};
 
+use bench_run::Progress;
 use std::io::{Error, ErrorKind, Print, Read};
 use std::rt::HostRuntime;
 use table::Table;
 
 // Reads until the list is full or the input ends, and answers how many bytes there are. A proved loop has to end, and nothing says that
-// the input does: so the loop counts its turns down, from a number that no run uses up.
+// the input does: so the loop has more turns than any run uses up.
 fn load(rt: &HostRuntime, list: &mut [u8]) -> usize
     ensures { IsPrefixLen result list.new }
 {
     let mut stdin = rt.stdin();
-    let mut end: usize = 0;
-    let mut turns = u64::MAX;
-    while turns > 0 && end < list.len() {
-        turns -= 1;
+    let mut end = 0;
+    for _ in 0..u64::MAX {
+        if end == list.len() {
+            break;
+        }
         match stdin.read(&mut list[end..]) {
-            Ok(0) => return end,
+            Ok(0) => break,
             Ok(more) => end += more,
-            Err(e) => {
-                if is_last(rt, &e) {
-                    return end;
-                }
-            }
+            Err(e) if is_last(rt, &e) => break,
+            Err(_) => {}
         }
     }
     end
@@ -41,31 +39,30 @@ fn is_last(rt: &HostRuntime, e: &Error) -> bool {
     true
 }
 
-// Plays the list, line by line, until it ends or a line cannot be written.
+// Plays the list, line by line, until it ends or a line cannot be written. `bench_lists` has a loop of its own: it prints at other places and never stops
+// early, so one with a closure would be no plainer.
 fn play(rt: &HostRuntime, list: &[u8]) {
     let mut stores = bench_run::blank();
     let mut line = [0u8; 40];
-    let mut table = Table::zeros();
-    let mut place: usize = 0;
+    let mut from = Progress {
+        table: Table::zeros(),
+        place: 0,
+    };
     loop {
-        let next = bench_run::next(list, place, table, &mut stores, &mut line);
-        if !print(rt, &line, next.length) {
+        let next = bench_run::next(list, from, &mut stores, &mut line);
+        if !print(rt, &line[..next.length]) {
             return;
         }
-        if next.ends {
+        let Some(onward) = next.onward else {
             return;
-        }
-        table = next.table;
-        place = next.place;
+        };
+        from = onward;
     }
 }
 
-// Prints the first bytes of the line; that they cannot be written is told.
-fn print(rt: &HostRuntime, line: &[u8; 40], length: usize) -> bool
-    requires { length ≤ 40 }
-{
-    let bytes: &[u8] = line;
-    match rt.stdout().write_all(&bytes[..length]) {
+// Prints the text of a line; that it cannot be written is told.
+fn print(rt: &HostRuntime, text: &[u8]) -> bool {
+    match rt.stdout().write_all(text) {
         Ok(_) => true,
         Err(e) => {
             let _ = eprintln!(rt; "standard output: {e}");

@@ -1,49 +1,26 @@
--- What the code hands back of a record, and that it is what the bench makes of its call. Assumes nothing.
-use Rattle.std.specs.Prelude.{true, false, ◌≡◌, ◌++◌, ℕ, ◌≤◌, min, leb, length, take, drop}
+-- What the code hands back of a call, and what call 8 is lent. Assumes nothing.
+use Rattle.std.specs.Prelude.{◌≡◌, ◌++◌, ℕ, ◌≤◌, min, leb, length, take, drop}
 use Rattle.std.proofs.Common.{sym, ◌∙◌, ap, inl, inr, arith, drop_of_length-le, take_all, leb-true, leb-false}
 use Rattle.lists.specs.Tests.{tested}
 use Rattle.texts.specs.BufferLaws.{part_length}
 use Rattle.meaning.specs.Model.{Bytes}
 use Rattle.meaning.specs.Calls.{Call, code, allocate}
-use Rattle.call_list.specs.Records.{Entry, call, stop}
 use Rattle.table.specs.declared.Table.{Table}
-use Rattle.table.specs.Calls.{Seen, SeenFound, called, answer}
+use Rattle.table.specs.Calls.{Seen, called, answer}
 use Rattle.bench_calls.specs.declared.Stepped.{Stepped}
 use Rattle.bench_calls.specs.Bench.{AfterCall, bench_called}
 
 -- an answer of the manager as the bench's, with the call's code in front
 abbrev pub stepped_to : ℕ → Seen → Stepped
-stepped_to k a = record { table = a.table; taken = true; code = k; report = a.report; value = a.value }
-
--- an answer of find, whose steps are not printed
-abbrev pub found_to : ℕ → SeenFound → Stepped
-found_to k f = record { table = f.table; taken = true; code = k; report = f.report; value = f.value }
+stepped_to k a = record { table = a.table; code = k; report = a.report; value = a.value }
 
 -- the report, the value and the table after a call
 abbrev pub seen_of : AfterCall → Seen
 seen_of o = record { table = o.table; report = o.report; value = o.value }
 
--- what stands at a place: a call is made, and at anything else the program stops
-abbrev pub stepped : Table → Bytes → Entry → Stepped
-stepped t buffer (call c) = stepped_to (code c) (seen_of (bench_called t buffer c))
-stepped t buffer stop = record { table = t; taken = false; code = 0; report = 0; value = 0 }
-
--- the store buffer after it
-abbrev pub stores_after : Table → Bytes → Entry → Bytes
-stores_after t buffer (call c) = (bench_called t buffer c).stores
-stores_after t buffer stop = buffer
-
--- ---- the ways out of a record
-
-module _ (t : Table) (buffer : Bytes) (c : Call) (e : Entry) (f : e ≡ call c) (r : Stepped) where
-  -- a call that is lent nothing
-  pub unlent : (a : Seen) → bench_called t buffer c ≡ record { report = a.report; value = a.value; table = a.table; stores = buffer } → r ≡ stepped_to (code c) a
-      → (r ≡ stepped t buffer e) × (buffer ≡ stores_after t buffer e)
-  unlent a b g = rw (f, b) (g, ap (λ a. a.stores) (sym b))
-
-  -- a call that may change the buffer
-  pub lent_out : (after : Bytes) → r ≡ stepped_to (code c) (seen_of (bench_called t buffer c)) → after ≡ (bench_called t buffer c).stores → (r ≡ stepped t buffer e) × (after ≡ stores_after t buffer e)
-  lent_out after g h = rw f (g, h)
+-- a call made on the bench, with its code in front
+abbrev pub stepped : Table → Bytes → Call → Stepped
+stepped t buffer c = stepped_to (code c) (seen_of (bench_called t buffer c))
 
 -- ---- what call 8 is lent
 

@@ -1,27 +1,25 @@
 // One record of the call list on the bench: identifiers are made from its raw numbers, and the call is made on the table.
 #![tactic(auto)]
 
-ghost use Rattle.std.specs.Prelude.{◌≡◌, min};
-ghost use Rattle.call_list.specs.Decoded.{entry_of};
+ghost use Rattle.std.specs.Prelude.{◌≡◌};
+ghost use Rattle.call_list.specs.Decoded.{call_made};
 ghost use Rattle.meaning.specs.Calls.{allocate};
 ghost use Rattle.meaning.specs.Reading.{run_of};
-ghost use Rattle.names.specs.Numbers.{number_of};
-ghost use Rattle.table.specs.Calls.{seen, answer, seen_found};
+ghost use Rattle.table.specs.Calls.{seen, answer};
 ghost use Rattle.bench_calls.specs.Bench.{bench_start, bench_called};
-ghost use Rattle.bench_calls.specs.Steps.{stepped_to, found_to, seen_of, stepped, stores_after};
+ghost use Rattle.bench_calls.specs.Steps.{stepped_to, seen_of, stepped};
 
 use call_list::Record;
 use names::{Area, Report, StackId, Store, StoreId, ThreadId};
-use table::{Answer, Found, Table};
+use table::{Answer, Table, refused};
 
 // What is lent of stores, and of stacks, at most.
 const MOST: u32 = 4096;
 
-// The table after a record and what is printed of it; `taken` is false where the program stops at it.
+// What a call gives: the table after it, and what is printed of it.
 #[derive(Clone, Copy)]
 pub struct Stepped {
     pub table: Table,
-    pub taken: bool,
     pub code: u32,
     pub report: u32,
     pub value: u32,
@@ -31,31 +29,12 @@ pub struct Stepped {
 fn told(code: u32, answer: Answer) -> Stepped
     ensures { result ≡ stepped_to code (seen answer) }
 {
-    let table = answer.table;
-    let report = answer.report;
     Stepped {
-        table,
-        taken: true,
+        table: answer.table,
         code,
-        report: report.number(),
+        report: answer.report.number(),
         value: answer.value,
     }
-}
-
-// Call 7: its steps are not printed.
-fn found(code: u32, found: Found) -> Stepped
-    ensures { result ≡ found_to code (seen_found found) }
-{
-    let table = found.table;
-    let report = found.report;
-    told(
-        code,
-        Answer {
-            table,
-            report,
-            value: found.value,
-        },
-    )
 }
 
 // Call 0: the check for 4, then what the bench can lend, then the manager.
@@ -66,55 +45,29 @@ fn start(table: Table, stores: Area, stacks: Area) -> Answer
     if stores.length < Store::OVERHEAD {
         return refused(table, Report::SizeTooSmall);
     }
-    if MOST < stores.length {
-        return refused(table, Report::BadArea);
-    }
-    if MOST < stacks.length {
+    if MOST < stores.length || MOST < stacks.length {
         return refused(table, Report::BadArea);
     }
     table.start(stores, stacks)
 }
 
-// The same table, and no value.
-fn refused(table: Table, report: Report) -> Answer
-    ensures { seen result ≡ record { table = table; report = number_of report; value = 0 } }
-{
-    Answer {
-        table,
-        report,
-        value: 0,
-    }
-}
-
-// How much of the store buffer call 8 is lent: the table's store area.
-fn lent(length: u32, room: usize) -> usize
-    ensures { result ≡ min length room }
-{
-    let whole = length as usize;
-    if room < whole {
-        return room;
-    }
-    whole
-}
-
-// Call 8.
+// Call 8 is lent the table's store area, as much of it as the store buffer has.
+#[tactic(auto, using(crate::specs::Steps::lent_back))]
 fn allocated(table: Table, stores: &mut [u8], thread: ThreadId, n: u32) -> Answer
     ensures told { seen result ≡ seen_of (bench_called table stores.old (allocate thread.0 n)) }
     ensures bytes { stores.new ≡ (bench_called table stores.old (allocate thread.0 n)).stores }
 {
-    let areas = table.areas;
-    let home = areas.stores;
-    let end = lent(home.length, stores.len());
+    let end = (table.areas.stores.length as usize).min(stores.len());
     table.allocate(&mut stores[..end], thread, n)
 }
 
-// A record of the list.
+// A call of the list, made on the table.
 #[tactic(auto, unfolding(crate::specs::Bench::bench_called))]
-pub fn step(table: Table, stores: &mut [u8], entry: Record) -> Stepped
-    ensures told { result ≡ stepped table stores.old (entry_of entry) }
-    ensures bytes { stores.new ≡ stores_after table stores.old (entry_of entry) }
+pub fn step(table: Table, stores: &mut [u8], call: Record) -> Stepped
+    ensures told { result ≡ stepped table stores.old (call_made call) }
+    ensures bytes { stores.new ≡ (bench_called table stores.old (call_made call)).stores }
 {
-    match entry {
+    match call {
         Record::Start(a, n, b, k) => told(0, start(table, Area::new(a, n), Area::new(b, k))),
         Record::Root => told(1, table.root()),
         Record::Context(t) => told(2, table.context(ThreadId(t))),
@@ -122,7 +75,7 @@ pub fn step(table: Table, stores: &mut [u8], entry: Record) -> Stepped
         Record::Total(s) => told(4, table.total(StoreId(s))),
         Record::Used(s) => told(5, table.used(StoreId(s))),
         Record::Free(s) => told(6, table.free(StoreId(s))),
-        Record::Find(a) => found(7, table.find(a)),
+        Record::Find(a) => told(7, Answer::from(table.find(a))),
         Record::Allocate(t, n) => told(8, allocated(table, stores, ThreadId(t), n)),
         Record::MakeStore(t, n) => told(9, table.make_store(ThreadId(t), n)),
         Record::Clear(t) => told(10, table.clear(ThreadId(t))),
@@ -131,12 +84,5 @@ pub fn step(table: Table, stores: &mut [u8], entry: Record) -> Stepped
         Record::DestroyStack(k) => told(13, table.destroy_stack(StackId(k))),
         Record::AddThread(t, s) => told(14, table.add_thread(ThreadId(t), StoreId(s))),
         Record::RemoveThread(t) => told(15, table.remove_thread(ThreadId(t))),
-        Record::Stop => Stepped {
-            table,
-            taken: false,
-            code: 0,
-            report: 0,
-            value: 0,
-        },
     }
 }

@@ -2,176 +2,117 @@
 // are written in document 01's notation. Each list's name is printed, and behind it what the bench prints of the list.
 #![tactic(auto)]
 
+use bench_run::Progress;
 use std::io::Print;
 use std::rt::HostRuntime;
 use table::Table;
-use translation::Outcome;
+use texts::{COUNTS, RECORD_LENGTH};
 
-fn text(rt: &HostRuntime, words: &[u8]) {
-    let _ = rt.stdout().write_all(words);
+// The bytes of the most records that the bench plays.
+const MOST: usize = 57000;
+
+// Which lines of a list are printed: all, or the last, behind the number of the others.
+#[derive(Clone, Copy, PartialEq, Eq)]
+enum Shown {
+    All,
+    Last,
 }
 
-fn title(rt: &HostRuntime, name: &[u8]) {
-    text(rt, b"# ");
-    text(rt, name);
-    text(rt, b"\n");
+fn title(rt: &HostRuntime, name: &str) {
+    let _ = println!(rt; "# {name}");
 }
 
-fn number(rt: &HostRuntime, n: u32) {
-    let _ = print!(rt; "{n}");
+fn print(rt: &HostRuntime, text: &[u8]) {
+    let _ = rt.stdout().write_all(text);
 }
 
-// Prints the first bytes of the line.
-fn print(rt: &HostRuntime, line: &[u8; 40], length: usize) {
-    let bytes: &[u8] = line;
-    if length <= 40 {
-        let _ = rt.stdout().write_all(&bytes[..length]);
-    }
-}
-
-// Plays a list. Where it is long, the lines but the last are counted and not printed.
-fn play(rt: &HostRuntime, list: &[u8], long: bool) {
+// Plays a list.
+fn play(rt: &HostRuntime, list: &[u8], shown: Shown) {
     let mut stores = bench_run::blank();
     let mut line = [0u8; 40];
-    let mut table = Table::zeros();
-    let mut place: usize = 0;
+    let mut from = Progress {
+        table: Table::zeros(),
+        place: 0,
+    };
     loop {
-        let next = bench_run::next(list, place, table, &mut stores, &mut line);
-        let ends = next.ends;
-        if ends {
-            counted(rt, long, place);
-            print(rt, &line, next.length);
+        let next = bench_run::next(list, from, &mut stores, &mut line);
+        let text = &line[..next.length];
+        let Some(onward) = next.onward else {
+            if shown == Shown::Last {
+                let lines = from.place / RECORD_LENGTH;
+                let _ = println!(rt; "{lines} lines");
+            }
+            print(rt, text);
             return;
+        };
+        if shown == Shown::All {
+            print(rt, text);
         }
-        passed(rt, long, &line, next.length);
-        table = next.table;
-        place = next.place;
+        from = onward;
     }
 }
 
-// A line that is not the last.
-fn passed(rt: &HostRuntime, long: bool, line: &[u8; 40], length: usize) {
-    if !long {
-        print(rt, line, length);
-    }
-}
-
-// The number of records up to a place, where they are counted.
-fn counted(rt: &HostRuntime, long: bool, place: usize) {
-    if long {
-        let lines = place / texts::RECORD_LENGTH;
-        let _ = println!(rt; "{lines} lines");
-    }
-}
-
-// Plays the first n bytes.
-fn play_first(rt: &HostRuntime, list: &[u8], n: usize, long: bool) {
-    if n <= list.len() {
-        play(rt, &list[..n], long);
-    }
-}
-
-// The records of a text of calls, at the front of the list: how many bytes there are.
-fn load(calls: &[u8], list: &mut [u8]) -> usize {
+// The records of a text of calls, at the front of the list.
+fn load<'a>(calls: &[u8], list: &'a mut [u8]) -> &'a [u8] {
     match translation::translate(calls, list) {
-        Outcome::Records(n) => n,
-        Outcome::TooMany => 0,
-        Outcome::Wrong(_) => 0,
+        Ok(end) => &list[..end],
+        Err(_) => &[],
     }
 }
 
-// A start and two calls.
-fn three(list: &mut [u8]) -> usize {
-    load(b"0(4096,256,8192,64) 1() 2(1)", list)
+// The records of a start and two calls.
+fn three() -> [u8; 57] {
+    let mut list = [0; 57];
+    load(b"0(4096,256,8192,64) 1() 2(1)", &mut list);
+    list
 }
 
-// The second record is short.
-fn short(rt: &HostRuntime) {
-    title(rt, b"a record of 18 bytes");
-    let mut list = [0u8; 57];
-    three(&mut list);
-    play_first(rt, &list, 37, false);
-}
-
-fn put(list: &mut [u8], at: usize, byte: u8) {
-    if at < list.len() {
-        list[at] = byte;
-    }
+// The list ends after so many bytes.
+fn cut(rt: &HostRuntime, name: &str, length: usize) {
+    title(rt, name);
+    let list = three();
+    play(rt, &list[..length.min(list.len())], Shown::All);
 }
 
 // A byte of the second record is another one.
-fn changed(rt: &HostRuntime, name: &[u8], at: usize, byte: u8) {
+fn changed(rt: &HostRuntime, name: &str, at: usize, byte: u8) {
     title(rt, name);
-    let mut list = [0u8; 57];
-    let n = three(&mut list);
-    put(&mut list, at, byte);
-    play_first(rt, &list, n, false);
+    let mut list = three();
+    if let Some(b) = list.get_mut(at) {
+        *b = byte;
+    }
+    play(rt, &list, Shown::All);
 }
 
-fn one(rt: &HostRuntime, code: u8, a: u32, b: u32, c: u32, d: u32) {
-    let mut list = [0u8; 19];
-    let n = record_bytes::write_record(&mut list, 0, code, a, b, c, d);
-    play_first(rt, &list, n, false);
-}
-
-// A call that takes so many numbers, with another number than 0 in each place behind them.
-fn unused(rt: &HostRuntime, code: u8, count: u32) {
-    text(rt, b"# numbers that call ");
-    number(rt, code as u32);
-    text(rt, b" lacks\n");
-    if count < 1 {
-        one(rt, code, 1, 0, 0, 0);
-    }
-    if count < 2 {
-        one(rt, code, 0, 256, 0, 0);
-    }
-    if count < 3 {
-        one(rt, code, 0, 0, 65536, 0);
-    }
-    if count < 4 {
-        one(rt, code, 0, 0, 0, 16777216);
-    }
-}
-
+// For each call, records with another number than 0 in one of the places behind those that it takes.
 fn unused_numbers(rt: &HostRuntime) {
-    unused(rt, 0, 4);
-    unused(rt, 1, 0);
-    unused(rt, 2, 1);
-    unused(rt, 3, 2);
-    unused(rt, 4, 1);
-    unused(rt, 5, 1);
-    unused(rt, 6, 1);
-    unused(rt, 7, 1);
-    unused(rt, 8, 2);
-    unused(rt, 9, 2);
-    unused(rt, 10, 1);
-    unused(rt, 11, 2);
-    unused(rt, 12, 1);
-    unused(rt, 13, 1);
-    unused(rt, 14, 2);
-    unused(rt, 15, 1);
+    for (code, count) in COUNTS.iter().enumerate() {
+        let _ = println!(rt; "# numbers that call {code} lacks");
+        for place in *count as usize..4 {
+            let mut numbers = [0; 4];
+            numbers[place] = 1 << (8 * place);
+            let mut record = [0; RECORD_LENGTH];
+            record_bytes::write_record(&mut record, 0, code as u8, numbers);
+            play(rt, &record, Shown::All);
+        }
+    }
 }
 
-// 3,000 records of call 1, and so many bytes more.
-fn most(rt: &HostRuntime, name: &[u8], more: usize) {
+// So many bytes of 3,000 records of call 1, and of a byte behind them.
+fn most(rt: &HostRuntime, name: &str, length: usize) {
     title(rt, name);
-    let mut list = [0u8; 57001];
-    let mut at: usize = 0;
-    let mut i: u32 = 0;
-    while i < 3000 {
-        at = record_bytes::write_record(&mut list, at, 1, 0, 0, 0, 0);
-        i += 1;
+    let mut list = [0u8; MOST + 1];
+    for record in list.chunks_exact_mut(RECORD_LENGTH) {
+        record_bytes::write_record(record, 0, 1, [0; 4]);
     }
-    if more <= 1 {
-        play_first(rt, &list, 57000 + more, true);
-    }
+    play(rt, &list[..length.min(list.len())], Shown::Last);
 }
 
 // Every report that the bench can print: all but 3, which is not used, and 11, since no size gives a total below 16.
 fn reports(rt: &HostRuntime) {
-    title(rt, b"every report");
+    title(rt, "every report");
     let mut list = [0u8; 2000];
-    let n = load(
+    let records = load(
         b"1() 0(4096,15,8192,64) 0(4096,4097,8192,64) 0(4096,1600,8192,400) 14(1,4096) 8(2,1) 4(5) 12(1000)
         9(1,100) 11(4096,0) 9(1,10) 11(4228,5) 14(2,4112) 10(1) 15(2) 10(1)
         9(1,100) 3(1,4112) 8(1,4) 11(4112,50) 3(1,4096) 7(99) 7(4120) 13(5)
@@ -180,20 +121,19 @@ fn reports(rt: &HostRuntime) {
         12(0) 12(0) 12(0) 12(0) 12(0) 12(0) 12(0) 12(0) 12(0) 12(0) 12(0) 12(0) 12(0) 12(0) 12(0) 12(0)",
         &mut list,
     );
-    play_first(rt, &list, n, false);
+    play(rt, records, Shown::All);
 }
 
 fn main(rt: HostRuntime) {
-    let none = [0u8; 1];
-    title(&rt, b"no bytes");
-    play_first(&rt, &none, 0, false);
-    short(&rt);
-    changed(&rt, b"another first byte of the mark", 19, 78);
-    changed(&rt, b"another second byte of the mark", 20, 84);
-    changed(&rt, b"code 16", 21, 16);
-    changed(&rt, b"code 255", 21, 255);
+    title(&rt, "no bytes");
+    play(&rt, &[], Shown::All);
+    cut(&rt, "a record of 18 bytes", 37);
+    changed(&rt, "another first byte of the mark", 19, 78);
+    changed(&rt, "another second byte of the mark", 20, 84);
+    changed(&rt, "code 16", 21, 16);
+    changed(&rt, "code 255", 21, 255);
     unused_numbers(&rt);
-    most(&rt, b"3,000 records", 0);
-    most(&rt, b"3,000 records and a byte", 1);
+    most(&rt, "3,000 records", MOST);
+    most(&rt, "3,000 records and a byte", MOST + 1);
     reports(&rt);
 }

@@ -1,23 +1,22 @@
 -- The run line by line, as the code makes it. The number of records left is in the place: 3,000 records take 57,000 bytes. Assumes nothing.
-use Rattle.std.specs.Prelude.{Bool, true, false, List, [], ◌++◌, ◌≡◌, refl, ℕ, zero, suc, ◌+◌, ◌-◌, ◌*◌, ◌^◌, ◌<◌, ◌≤◌, leb, if◌then◌else◌}
+use Rattle.std.specs.Prelude.{Bool, true, false, Option, Some, None, List, [], ◌++◌, ◌≡◌, refl, ℕ, zero, suc, ◌+◌, ◌-◌, ◌*◌, ◌^◌, ◌<◌, ◌≤◌, leb, if◌then◌else◌}
 use Rattle.std.proofs.Common.{append-nil, inl, inr, sym, ◌∙◌, ap, arith}
 use Rattle.std.proofs.Math.ListN.{length}
 use borrow.Author.Tests.{le-leb, lt-leb, leb-true, leb-false}
 use Rattle.lists.specs.Tests.{tested, never}
 use Rattle.meaning.specs.Model.{Bytes}
-use Rattle.meaning.specs.Calls.{code}
+use Rattle.meaning.specs.Calls.{Call, code}
 use Rattle.call_list.specs.Records.{Entry, call, stop, record_at}
 use Rattle.call_list.specs.Laws.{record_short}
 use Rattle.list_reader.specs.Read.{after}
 use Rattle.answer_text.specs.Text.{answer_text, stop_text}
 use Rattle.answer_text.specs.TextLaws.{answer_length, stop_length}
-use Rattle.texts.specs.Buffer.{overwritten, placed as written, place_after}
+use Rattle.texts.specs.Buffer.{overwritten, placed as written, end_of}
 use Rattle.texts.proofs.DecimalLaws.{ten_digits}
 use Rattle.texts.specs.Record.{record_length}
 use Rattle.table.specs.declared.Table.{Table}
 use Rattle.bench_run.specs.declared.Line.{Line}
-use Rattle.bench_calls.specs.declared.Stepped.{Stepped}
-use Rattle.bench_calls.specs.Steps.{stepped, stores_after}
+use Rattle.bench_run.specs.declared.Progress.{Progress}
 use Rattle.bench_calls.specs.Bench.{bench_called}
 use Rattle.bench_run.specs.Run.{used_up, printed, run_from}
 
@@ -86,79 +85,41 @@ module _ (list : List ℕ) (place : ℕ) (t : Table) (buffer : Bytes) where
   unfolding line_at
   line_record h k = rw (lt-leb (length list) place h, lt-leb last_place place k)
 
--- what the code's step tells of a record is its line
-pub stop_line : (e : Entry) (place : ℕ) (t : Table) (buffer : Bytes) (s : Stepped) → s ≡ stepped t buffer e → s.taken ≡ false
-    → (line_of e place t buffer ≡ ended (stop_text place) place t buffer) × (stores_after t buffer e ≡ buffer)
-stop_line (call c) place t buffer s h k = never s.taken (ap (λ x. x.taken) h) k
-stop_line stop place t buffer s h k = (refl, refl)
-
-pub call_line : (e : Entry) (place : ℕ) (t : Table) (buffer : Bytes) (s : Stepped) → s ≡ stepped t buffer e → s.taken ≡ true
-    → line_of e place t buffer
-    ≡ record { text = answer_text s.code s.report s.value; ends = false; place = place + record_length; table = s.table; stores = stores_after t buffer e }
-call_line (call c) place t buffer s h k = rw h
-call_line stop place t buffer s h k = never s.taken k (ap (λ x. x.taken) h)
-
 -- a call stands in a whole record, so the place after it is 19 bytes further
-pub call_next : (list : List ℕ) (place : ℕ) (t : Table) (buffer : Bytes) → (stepped t buffer (record_at list place)).taken ≡ true → after list place ≡ place + record_length
+pub call_next : (list : List ℕ) (place : ℕ) (c : Call) → call c ≡ record_at list place → after list place ≡ place + record_length
 unfolding after
-call_next list place t buffer h = elim (tested (leb (place + record_length) (length list))) [
+call_next list place c h = elim (tested (leb (place + record_length) (length list))) [
   | inl k ↦ let b = leb-true (place + record_length) (length list) k in omega arith
-  | inr k ↦ never false (rw (record_short list place (leb-false (place + record_length) (length list) k)) at h) refl
+  | inr k ↦ let e : call c ≡ stop = h ∙ record_short list place (leb-false (place + record_length) (length list) k) in cc
 ]
 
 -- ---- the code's line
 
--- the text of a line stands in the line buffer; the code tells how long it is
+-- the text of a line stands in the line buffer; the code tells how long it is, and how far the run then is where the line does not end it
 abbrev pub line_told : Printed → Line
-line_told l = record { table = l.table; place = l.place; length = length l.text; ends = l.ends }
-
--- what `next` promises of a line: its answer, the line buffer and the store buffer after it
-abbrev pub Shows : Printed → Line → List ℕ → List ℕ → Bytes → Type 0
-Shows l r before after stores = (r ≡ line_told l) × ((after ≡ overwritten 0 l.text before) × ((stores ≡ l.stores) × (r.length ≤ 40)))
-
--- no text, no byte written
-pub shows_nothing : (l : Printed) (place : ℕ) (t : Table) (buffer : Bytes) (r : Line) (line : List ℕ) → l ≡ ended [] place t buffer
-    → r ≡ record { table = t; place = place; length = 0; ends = true } → Shows l r line line buffer
-unfolding overwritten
-shows_nothing l place t buffer r line e f = let n = ap (λ x. x.length) f in rw e (f, (refl, (refl, omega arith)))
-
--- a stop
-pub shows_stop : (l : Printed) (offset place : ℕ) (t : Table) (buffer stores : Bytes) (r : Line) (n : ℕ) (before after : List ℕ) → l ≡ ended (stop_text offset) place t buffer
-    → r ≡ record { table = t; place = place; length = n; ends = true } → (after ≡ overwritten 0 (stop_text offset) before) × (n ≡ length (stop_text offset)) × (n ≤ 40) → stores ≡ buffer
-    → Shows l r before after stores
-shows_stop l offset place t buffer stores r n before after e f g h =
-    let x = ap (λ x. x.length) f in
-    let y = g.2 in
-    rw e (f ∙ ap (λ k. record { table = t; place = place; length = k; ends = true }) g.1, (g.0, (h, omega arith)))
-
--- an answer; the code's place is what the reader tells
-pub shows_answer : (l : Printed) (k report value place p : ℕ) (t : Table) (buffer stores : Bytes) (n : ℕ) (before after : List ℕ)
-    → l ≡ record { text = answer_text k report value; ends = false; place = place; table = t; stores = buffer }
-    → (after ≡ overwritten 0 (answer_text k report value) before) × (n ≡ length (answer_text k report value)) × (n ≤ 40) → stores ≡ buffer → p ≡ place
-    → Shows l (record { table = t; place = p; length = n; ends = false }) before after stores
-shows_answer l k report value place p t buffer stores n before after e g h q = rw (e, q) (ap (λ j. record { table = t; place = place; length = j; ends = false }) g.1, (g.0, (h, g.2)))
+line_told l = record { length = length l.text; onward = if l.ends then None else Some (record { table = l.table; place = l.place }) }
 
 -- a line of 40 bytes holds every text of numbers of 32 bits
 module _ (buffer : List ℕ) (h : length buffer ≡ 40) where
-  pub answer_fits : (k report value : ℕ) → k < 2 ^ 32 → report < 2 ^ 32 → value < 2 ^ 32 → (after : List ℕ) (n : ℕ)
-      → (after ≡ written 0 (answer_text k report value) buffer) × (n ≡ place_after 0 (answer_text k report value) buffer)
-      → (after ≡ overwritten 0 (answer_text k report value) buffer) × (n ≡ length (answer_text k report value)) × (n ≤ 40)
-  unfolding written place_after
-  answer_fits k report value a b c after n w =
+  pub answer_fits : (k report value : ℕ) → k < 2 ^ 32 → report < 2 ^ 32 → value < 2 ^ 32 → (after : List ℕ) (place : Option ℕ)
+      → (after ≡ written 0 (answer_text k report value) buffer) × (place ≡ end_of 0 (answer_text k report value) buffer)
+      → (after ≡ overwritten 0 (answer_text k report value) buffer) × (place ≡ Some (length (answer_text k report value))) × (length (answer_text k report value) ≤ 40)
+  unfolding written end_of
+  answer_fits k report value a b c after place w =
       let l : length (answer_text k report value) ≤ 40 = omega (arith, answer_length k report value, ten_digits k a, ten_digits report b, ten_digits value c) in
       let f = le-leb (0 + length (answer_text k report value)) (length buffer) (omega (arith, h)) in
-      let e : n ≡ length (answer_text k report value) = w.1 ∙ rw f (omega arith) in
-      (w.0 ∙ rw f, e, omega arith)
+      let z : 0 + length (answer_text k report value) ≡ length (answer_text k report value) = omega arith in
+      (w.0 ∙ rw f, w.1 ∙ rw f (ap (λ n. Some n) z), l)
 
-  pub stop_fits : (offset : ℕ) → offset < 2 ^ 32 → (after : List ℕ) (n : ℕ)
-      → (after ≡ written 0 (stop_text offset) buffer) × (n ≡ place_after 0 (stop_text offset) buffer)
-      → (after ≡ overwritten 0 (stop_text offset) buffer) × (n ≡ length (stop_text offset)) × (n ≤ 40)
-  unfolding written place_after
-  stop_fits offset a after n w =
+  pub stop_fits : (offset : ℕ) → offset < 2 ^ 32 → (after : List ℕ) (place : Option ℕ)
+      → (after ≡ written 0 (stop_text offset) buffer) × (place ≡ end_of 0 (stop_text offset) buffer)
+      → (after ≡ overwritten 0 (stop_text offset) buffer) × (place ≡ Some (length (stop_text offset))) × (length (stop_text offset) ≤ 40)
+  unfolding written end_of
+  stop_fits offset a after place w =
       let l : length (stop_text offset) ≤ 40 = omega (arith, stop_length offset, ten_digits offset a) in
       let f = le-leb (0 + length (stop_text offset)) (length buffer) (omega (arith, h)) in
-      let e : n ≡ length (stop_text offset) = w.1 ∙ rw f (omega arith) in
-      (w.0 ∙ rw f, e, omega arith)
+      let z : 0 + length (stop_text offset) ≡ length (stop_text offset) = omega arith in
+      (w.0 ∙ rw f, w.1 ∙ rw f (ap (λ n. Some n) z), l)
 
 -- ---- a run that goes on
 
@@ -179,9 +140,14 @@ goes_on list place t buffer h = elim (tested (used_up list place)) [
 ]
 
 -- so the bytes that are left to take fall
-pub place_rises : (list : List ℕ) (place : ℕ) (t : Table) (buffer : Bytes) (r : Line) → r ≡ line_told (line_at list place t buffer) → r.ends ≡ false
-    → last_place - r.place < last_place - place
-place_rises list place t buffer r e h =
-    let g = goes_on list place t buffer (sym (ap (λ l. l.ends) e) ∙ h) in
-    let p = ap (λ l. l.place) e ∙ g.1 in
-    omega (arith, g.0)
+pub place_rises : (list : List ℕ) (place : ℕ) (t : Table) (buffer : Bytes) (r : Line) (p : Progress) → r ≡ line_told (line_at list place t buffer) → r.onward ≡ Some p
+    → last_place - p.place < last_place - place
+place_rises list place t buffer r p e h = elim (tested (line_at list place t buffer).ends) [
+  | inl k ↦ let n : Some p ≡ None = sym h ∙ ap (λ x. x.onward) e ∙ rw k in cc
+  | inr k ↦
+      let g = goes_on list place t buffer k in
+      let n : Some p ≡ Some (record { table = (line_at list place t buffer).table; place = (line_at list place t buffer).place }) = sym h ∙ ap (λ x. x.onward) e ∙ rw k in
+      let q : p ≡ record { table = (line_at list place t buffer).table; place = (line_at list place t buffer).place } = cc in
+      let m = ap (λ x. x.place) q ∙ g.1 in
+      omega (arith, g.0)
+]

@@ -1,7 +1,7 @@
 // The bench: a call list played on the manager, line by line.
 #![tactic(auto)]
 
-ghost use Rattle.std.specs.Prelude.{true, ◌≡◌, ◌≤◌, length};
+ghost use Rattle.std.specs.Prelude.{◌≡◌, ◌≤◌, length};
 ghost use Rattle.answer_text.specs.Text.{answer_text, stop_text};
 ghost use Rattle.texts.specs.Buffer.{overwritten};
 ghost use Rattle.bench_calls.specs.Bench.{zero_stores};
@@ -14,79 +14,77 @@ use table::Table;
 // The bytes of 3,000 records.
 const LIST: usize = 57000;
 
-// A line of the run: how long its text is, whether the run ends with it, and the table and the place after it.
+// How far a run is: the table, and the place of the next record.
 #[derive(Clone, Copy)]
-pub struct Line {
+pub struct Progress {
     pub table: Table,
     pub place: usize,
+}
+
+// A line of the run: how long its text is, and how far the run then is, or none where it ends.
+// A slice would be lent from the line buffer, and then no clause could say what the whole of it holds: so the length is told.
+#[derive(Clone, Copy)]
+pub struct Line {
     pub length: usize,
-    pub ends: bool,
+    pub onward: Option<Progress>,
 }
 
 // The store buffer before the first call.
+#[tactic(auto, unfolding(bench_calls::specs::Bench::zero_stores))]
 pub fn blank() -> [u8; 4096]
     ensures { result ≡ zero_stores }
 {
     [0; 4096]
 }
 
-// The line at a place of the list; its text is put at the start of `line`.
-pub fn next(
-    list: &[u8],
-    place: usize,
-    table: Table,
-    stores: &mut [u8; 4096],
-    line: &mut [u8; 40],
-) -> Line
-    ensures told { result ≡ line_told (line_at list.now place table stores.old) }
-    ensures text { line.new ≡ overwritten 0 (line_at list.now place table stores.old).text line.old }
-    ensures bytes { stores.new ≡ (line_at list.now place table stores.old).stores }
+// The next line of a run; its text is put at the start of `line`.
+#[tactic(auto, using(crate::specs::Lines::line_none, crate::specs::Lines::line_many, crate::specs::Lines::line_record, crate::specs::Lines::call_next), unfolding(texts::specs::Buffer::overwritten))]
+pub fn next(list: &[u8], from: Progress, stores: &mut [u8; 4096], line: &mut [u8; 40]) -> Line
+    ensures told { result ≡ line_told (line_at list.now from.place from.table stores.old) }
+    ensures text { line.new ≡ overwritten 0 (line_at list.now from.place from.table stores.old).text line.old }
+    ensures bytes { stores.new ≡ (line_at list.now from.place from.table stores.old).stores }
     ensures fits { result.length ≤ 40 }
 {
-    if list.len() <= place {
-        return ended(table, place, 0);
+    if list.len() <= from.place {
+        return last(0);
     }
-    if LIST <= place {
-        return ended(table, place, put_stop(line, LIST as u32));
+    if LIST <= from.place {
+        return last(put_stop(line, LIST as u32));
     }
-    let taken = read_record(list, place);
-    let found = taken.found;
-    let done = step(table, stores, found);
-    if !done.taken {
-        return ended(table, place, put_stop(line, place as u32));
-    }
-    let length = put_answer(line, done.code, done.report, done.value);
-    let table = done.table;
+    let taken = read_record(list, from.place);
+    let Some(call) = taken.found else {
+        return last(put_stop(line, from.place as u32));
+    };
+    let done = step(from.table, stores, call);
     Line {
-        table,
-        place: taken.next,
-        length,
-        ends: false,
+        length: put_answer(line, done.code, done.report, done.value),
+        onward: Some(Progress {
+            table: done.table,
+            place: taken.next,
+        }),
     }
 }
 
 // The last line.
-fn ended(table: Table, place: usize, length: usize) -> Line
-    ensures { result ≡ record { table = table; place = place; length = length; ends = true } }
+fn last(length: usize) -> Line
+    ensures { result ≡ record { length = length; onward = None } }
 {
     Line {
-        table,
-        place,
         length,
-        ends: true,
+        onward: None,
     }
 }
 
-// An answer as a line.
+// An answer as a line, where there is always room for it.
 fn put_answer(line: &mut [u8; 40], code: u32, report: u32, value: u32) -> usize
     ensures { (line.new ≡ overwritten 0 (answer_text code report value) line.old) × (result ≡ length (answer_text code report value)) × (result ≤ 40) }
 {
-    answer_text::write_answer(line, 0, code, report, value)
+    answer_text::write_answer(line, 0, code, report, value).unwrap()
 }
 
-// A stop as a line.
+// A stop as a line, where there is always room for it.
 fn put_stop(line: &mut [u8; 40], offset: u32) -> usize
     ensures { (line.new ≡ overwritten 0 (stop_text offset) line.old) × (result ≡ length (stop_text offset)) × (result ≤ 40) }
 {
-    answer_text::write_stop(line, 0, offset)
+    answer_text::write_stop(line, 0, offset).unwrap()
 }

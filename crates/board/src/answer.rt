@@ -31,35 +31,37 @@ pub struct BoardFound {
     pub steps: u32,
 }
 
-pub fn answer_of(answer: Answer) -> BoardAnswer
-    ensures { answer_seen result ≡ seen answer }
-{
-    let table = answer.table;
-    let report = answer.report;
-    BoardAnswer {
-        table,
-        report: report.number(),
-        value: answer.value,
+impl From<Answer> for BoardAnswer {
+    ghost from_gives = { λ answer r. answer_seen r ≡ seen answer };
+
+    fn from(answer: Answer) -> BoardAnswer {
+        BoardAnswer {
+            table: answer.table,
+            report: answer.report.number(),
+            value: answer.value,
+        }
     }
 }
 
-pub fn reply_of(answer: Answer) -> BoardReply
-    ensures { reply_seen answer.table result ≡ seen answer }
-{
-    let report = answer.report;
-    BoardReply {
-        report: report.number(),
-        value: answer.value,
+impl From<Answer> for BoardReply {
+    ghost from_gives = { λ answer r. reply_seen answer.table r ≡ seen answer };
+
+    fn from(answer: Answer) -> BoardReply {
+        BoardReply {
+            report: answer.report.number(),
+            value: answer.value,
+        }
     }
 }
 
-pub fn found_of(found: Found) -> BoardFound
-    ensures { found_seen found.table result ≡ seen_found found }
-{
-    let report = found.report;
-    BoardFound {
-        report: report.number(),
-        value: found.value,
-        steps: found.steps,
+impl From<Found> for BoardFound {
+    ghost from_gives = { λ found r. found_seen found.table r ≡ seen_found found };
+
+    fn from(found: Found) -> BoardFound {
+        BoardFound {
+            report: found.report.number(),
+            value: found.value,
+            steps: found.steps,
+        }
     }
 }

@@ -6,7 +6,7 @@ ghost use Rattle.table.specs.Table.{zero_table};
 ghost use Rattle.table.specs.Calls.{called, answer};
 ghost use Rattle.board.specs.Board.{answer_seen};
 
-use crate::answer::{BoardAnswer, answer_of};
+use crate::answer::BoardAnswer;
 use names::{Area, StackId, StoreId, ThreadId};
 use table::Table;
 
@@ -21,14 +21,14 @@ pub fn board_zeros() -> Table
 pub fn board_start(table: Table, stores: Area, stacks: Area) -> BoardAnswer
     ensures { answer_seen result ≡ answer (called table [] (start (run_of stores) (run_of stacks))) }
 {
-    answer_of(table.start(stores, stacks))
+    BoardAnswer::from(table.start(stores, stacks))
 }
 
 // Call 3.
 pub fn board_set_context(table: Table, thread: ThreadId, store: StoreId) -> BoardAnswer
     ensures { answer_seen result ≡ answer (called table [] (set_context thread.0 store.0)) }
 {
-    answer_of(table.set_context(thread, store))
+    BoardAnswer::from(table.set_context(thread, store))
 }
 
 // Call 8. The store area is lent, as long as the table says.
@@ -36,54 +36,54 @@ pub fn board_allocate(table: Table, area: &mut [u8], thread: ThreadId, n: u32) -
     ensures told { answer_seen result ≡ answer (called table area.old (allocate thread.0 n)) }
     ensures bytes { area.new ≡ (called table area.old (allocate thread.0 n)).bytes }
 {
-    answer_of(table.allocate(area, thread, n))
+    BoardAnswer::from(table.allocate(area, thread, n))
 }
 
 // Call 9.
 pub fn board_make_store(table: Table, thread: ThreadId, n: u32) -> BoardAnswer
     ensures { answer_seen result ≡ answer (called table [] (make_store thread.0 n)) }
 {
-    answer_of(table.make_store(thread, n))
+    BoardAnswer::from(table.make_store(thread, n))
 }
 
 // Call 10.
 pub fn board_clear(table: Table, thread: ThreadId) -> BoardAnswer
     ensures { answer_seen result ≡ answer (called table [] (clear thread.0)) }
 {
-    answer_of(table.clear(thread))
+    BoardAnswer::from(table.clear(thread))
 }
 
 // Call 11.
 pub fn board_resize(table: Table, store: StoreId, n: u32) -> BoardAnswer
     ensures { answer_seen result ≡ answer (called table [] (resize store.0 n)) }
 {
-    answer_of(table.resize(store, n))
+    BoardAnswer::from(table.resize(store, n))
 }
 
 // Call 12.
 pub fn board_make_stack(table: Table, n: u32) -> BoardAnswer
     ensures { answer_seen result ≡ answer (called table [] (make_stack n)) }
 {
-    answer_of(table.make_stack(n))
+    BoardAnswer::from(table.make_stack(n))
 }
 
 // Call 13.
 pub fn board_destroy_stack(table: Table, stack: StackId) -> BoardAnswer
     ensures { answer_seen result ≡ answer (called table [] (destroy_stack stack.0)) }
 {
-    answer_of(table.destroy_stack(stack))
+    BoardAnswer::from(table.destroy_stack(stack))
 }
 
 // Call 14.
 pub fn board_add_thread(table: Table, thread: ThreadId, store: StoreId) -> BoardAnswer
     ensures { answer_seen result ≡ answer (called table [] (add_thread thread.0 store.0)) }
 {
-    answer_of(table.add_thread(thread, store))
+    BoardAnswer::from(table.add_thread(thread, store))
 }
 
 // Call 15.
 pub fn board_remove_thread(table: Table, thread: ThreadId) -> BoardAnswer
     ensures { answer_seen result ≡ answer (called table [] (remove_thread thread.0)) }
 {
-    answer_of(table.remove_thread(thread))
+    BoardAnswer::from(table.remove_thread(thread))
 }

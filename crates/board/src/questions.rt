@@ -6,7 +6,7 @@ ghost use Rattle.table.specs.Table.{broken_rule};
 ghost use Rattle.table.specs.Calls.{called, answer, found_answer};
 ghost use Rattle.board.specs.Board.{reply_seen, found_seen};
 
-use crate::answer::{BoardFound, BoardReply, found_of, reply_of};
+use crate::answer::{BoardFound, BoardReply};
 use names::{StoreId, ThreadId};
 use table::Table;
 
@@ -21,40 +21,40 @@ pub fn board_broken_rule(table: Table) -> u32
 pub fn board_root(table: Table) -> BoardReply
     ensures { reply_seen table result ≡ answer (called table [] root) }
 {
-    reply_of(table.root())
+    BoardReply::from(table.root())
 }
 
 // Call 2.
 pub fn board_context(table: Table, thread: ThreadId) -> BoardReply
     ensures { reply_seen table result ≡ answer (called table [] (context_of thread.0)) }
 {
-    reply_of(table.context(thread))
+    BoardReply::from(table.context(thread))
 }
 
 // Call 4.
 pub fn board_total(table: Table, store: StoreId) -> BoardReply
     ensures { reply_seen table result ≡ answer (called table [] (total_of store.0)) }
 {
-    reply_of(table.total(store))
+    BoardReply::from(table.total(store))
 }
 
 // Call 5.
 pub fn board_used(table: Table, store: StoreId) -> BoardReply
     ensures { reply_seen table result ≡ answer (called table [] (used_of store.0)) }
 {
-    reply_of(table.used(store))
+    BoardReply::from(table.used(store))
 }
 
 // Call 6.
 pub fn board_free(table: Table, store: StoreId) -> BoardReply
     ensures { reply_seen table result ≡ answer (called table [] (free_of store.0)) }
 {
-    reply_of(table.free(store))
+    BoardReply::from(table.free(store))
 }
 
 // Call 7.
 pub fn board_find(table: Table, address: u32) -> BoardFound
     ensures { found_seen table result ≡ found_answer (called table [] (find address)) }
 {
-    found_of(table.find(address))
+    BoardFound::from(table.find(address))
 }

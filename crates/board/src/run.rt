@@ -2,9 +2,10 @@
 ghost use Rattle.std.specs.Prelude.{false, ◌≡◌, ◌≤◌};
 ghost use Rattle.meaning.specs.Model.{◌holds◌};
 ghost use Rattle.meaning.specs.Reading.{run_of};
+ghost use Rattle.names.specs.Numbers.{number_of};
 ghost use Rattle.board.specs.Run.{run_told_by, run_told};
 
-use names::Area;
+use names::{Area, Report};
 use table::Table;
 
 // `area` is 0 for that of the stores and 1 for that of the stacks.
@@ -18,13 +19,14 @@ pub struct BoardRun {
 }
 
 // The run by its report; an accepted one is in the area that holds its address.
-fn run_of(stores: Area, stacks: Area, report: u32, address: u32, n: u32) -> BoardRun
-    requires { report ≡ 0 → (run_of stores holds address) ≡ false → stacks.start ≤ address }
-    ensures { result ≡ run_told_by stores stacks report address n }
+#[tactic(auto, unfolding(meaning::specs::RunQuestion::part_of))]
+fn run_of(stores: Area, stacks: Area, report: Report, address: u32, n: u32) -> BoardRun
+    requires { number_of report ≡ 0 → (run_of stores holds address) ≡ false → stacks.start ≤ address }
+    ensures { result ≡ run_told_by stores stacks (number_of report) address n }
 {
-    if report != 0 {
+    if report != Report::Accepted {
         return BoardRun {
-            report,
+            report: report.number(),
             area: 0,
             offset: 0,
             length: 0,
@@ -52,5 +54,5 @@ pub fn board_run(table: Table, stores: &[u8], stacks: &[u8], address: u32, n: u3
 {
     let report = table.run_report(stores, stacks, address, n);
     let areas = table.areas;
-    run_of(areas.stores, areas.stacks, report.number(), address, n)
+    run_of(areas.stores, areas.stacks, report, address, n)
 }

@@ -2,7 +2,7 @@
 // the steps too.
 #![tactic(auto)]
 
-use names::{Area, Report, StackId, StoreId, ThreadId};
+use names::{Area, StackId, StoreId, ThreadId};
 use table::{Answer, Found, Table};
 
 // The table after the first two calls of the example.
@@ -14,34 +14,19 @@ fn t0() -> Table {
     added.table
 }
 
-fn text(rt: &impl Print, words: &str) {
-    let _ = print!(rt; "{words}");
-}
-
-fn number(rt: &impl Print, n: u32) {
-    let _ = print!(rt; " {n}");
-}
-
-fn line(rt: &impl Print, case: u32, what: &str, report: Report, value: u32) {
-    let _ = print!(rt; "{case} ");
-    text(rt, what);
-    number(rt, report.number());
-    number(rt, value);
-}
-
 // Prints a call's line and gives the table after it.
 fn say(rt: &impl Print, case: u32, what: &str, answer: Answer) -> Table {
-    let report = answer.report;
-    line(rt, case, what, report, answer.value);
-    text(rt, "\n");
+    let report = answer.report.number();
+    let value = answer.value;
+    let _ = println!(rt; "{case} {what} {report} {value}");
     answer.table
 }
 
 fn say_found(rt: &impl Print, case: u32, found: Found) {
-    let report = found.report;
-    line(rt, case, "find", report, found.value);
-    number(rt, found.steps);
-    text(rt, "\n");
+    let report = found.report.number();
+    let value = found.value;
+    let steps = found.steps;
+    let _ = println!(rt; "{case} find {report} {value} {steps}");
 }
 
 // The bytes of the store area play no part in what is printed.

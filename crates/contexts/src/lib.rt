@@ -8,49 +8,32 @@ ghost use Rattle.threads.specs.Threads.{reading as threads_of};
 ghost use Rattle.stores.specs.Stores.{reading as stores_of};
 ghost use Rattle.contexts.specs.Contexts.{in_listed, in_nested};
 
+use lines::Lines;
 use names::StoreId;
 use stores::Stores;
 use threads::Threads;
 
 // Each thread has a listed store as context.
-fn all_listed(threads: Threads, stores: Stores) -> bool
-    ensures { result ≡ all (in_listed (stores_of stores)) (threads_of threads) }
+fn all_listed(threads: &Threads, stores: &Stores) -> bool
+    ensures { result ≡ all (in_listed (stores_of stores.now)) (threads_of threads.now) }
 {
-    let n = threads.len();
-    let mut i: usize = 0;
-    while i < n {
-        let t = threads.nth(i);
-        if !stores.has(t.context) {
-            return false;
-        }
-        i += 1;
-    }
-    true
+    threads.listed().iter().all(|t| stores.has(t.context))
 }
 
 // Rule 5.
 #[tactic(auto, unfolding(meaning::specs::Rules::threads_placed))]
-pub fn threads_placed(threads: Threads, stores: Stores) -> bool
-    ensures { result ≡ threads_placed (stores_of stores) (threads_of threads) }
+pub fn threads_placed(threads: &Threads, stores: &Stores) -> bool
+    ensures { result ≡ threads_placed (stores_of stores.now) (threads_of threads.now) }
 {
-    if !threads.rises() {
-        return false;
-    }
-    all_listed(threads, stores)
+    threads.rises() && all_listed(threads, stores)
 }
 
 // Report 6: some thread's context is nested in the store.
-pub fn some_nested_in(threads: Threads, stores: Stores, store: StoreId) -> bool
-    ensures { result ≡ any (in_nested (stores_of stores) store.0) (threads_of threads) }
+pub fn some_nested_in(threads: &Threads, stores: &Stores, store: StoreId) -> bool
+    ensures { result ≡ any (in_nested (stores_of stores.now) store.0) (threads_of threads.now) }
 {
-    let n = threads.len();
-    let mut i: usize = 0;
-    while i < n {
-        let t = threads.nth(i);
-        if stores.nested_in(t.context, store) {
-            return true;
-        }
-        i += 1;
-    }
-    false
+    threads
+        .listed()
+        .iter()
+        .any(|t| stores.nested_in(t.context, store))
 }

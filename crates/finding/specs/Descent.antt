@@ -1,6 +1,7 @@
 -- Call 7 as a way down from the root, on any list of stores: into the child that holds the address, as long as there is one in the lines that follow. The
 -- lines of a sound table rise, so a child follows its parent; Right.antt proves that this is the deepest store that holds the address. Assumes nothing.
-use Rattle.std.specs.Prelude.{Bool, ◌&&◌, List, [], ◌∷◌, ℕ, ◌+◌, eqb, if◌then◌else◌}
+use Rattle.std.specs.Prelude.{Bool, ◌&&◌, Result, Ok, Err, List, [], ◌∷◌, ℕ, ◌+◌, eqb, if◌then◌else◌}
+use Rattle.names.specs.declared.report.Report.{Report}
 use Rattle.names.specs.Numbers.{number_of}
 use Rattle.meaning.specs.Model.{Store, ◌holds◌, whole}
 use Rattle.meaning.specs.Calls.{Outcome}
@@ -12,8 +13,9 @@ pub record Finding : Type 0 where
   pub value : ℕ
   pub steps : ℕ
 
-abbrev pub seen : Found → Finding
-seen f = record { report = number_of f.reply.report; value = f.reply.value; steps = f.steps }
+abbrev pub seen : Result Found Report → Finding
+seen (Ok f) = record { report = 0; value = f.store.0; steps = f.steps }
+seen (Err r) = record { report = number_of r; value = 0; steps = 0 }
 
 -- what a call of the model tells
 abbrev pub told : Outcome → Finding

@@ -1,84 +1,56 @@
--- The way down as the code goes it, over the first n lines of an array: one law for each way out. Assumes nothing.
-use Rattle.std.specs.Prelude.{Bool, true, false, List, ◌∷◌, ◌≡◌, refl, ℕ, ◌+◌, ◌≤◌, ◌<◌, min, length, drop, get_or}
-use Rattle.std.proofs.Math.Path.{sym}
-use Rattle.std.proofs.Common.{◌∙◌, arith}
-use Rattle.lines.specs.Shape.{live, from_here, from_end, first_line, first_none}
-use Rattle.lines.specs.Lookup.{count_read, lines_read}
+-- The way down as the code goes it, line by line. Assumes nothing.
+use Rattle.std.specs.Prelude.{Bool, true, false, List, [], ◌∷◌, ◌≡◌, refl, ℕ, ◌+◌, ◌≤◌, ◌<◌, map, length, drop, get_or}
+use Rattle.std.proofs.Common.{sym, ◌∙◌, ap, arith, add-one, drop-cons, drop_of_length-le}
 use Rattle.names.specs.declared.lines.Store.{Store as Line}
 use Rattle.meaning.specs.Model.{Store, ◌holds◌, whole}
-use Rattle.stores.specs.Stores.{view, zeros, store_line, reading}
-use Rattle.stores.specs.declared.Stores.{Stores}
+use Rattle.stores.specs.Stores.{view, zeros}
 use Rattle.finding.specs.Descent.{inside, outside, leads, descend, descent}
 
-module _ (n : ℕ) (ls : List Line) (s a : ℕ) where
-  -- no line between two places leads down from s: the way down from the one is that from the other
-  pub record Passed (from i : ℕ) : Type 0 where
-    pub low : from ≤ i
-    pub same : (k : ℕ) → descend (drop from (live store_line n ls)) s k a ≡ descend (drop i (live store_line n ls)) s k a
+-- behind the last line the way is at its end
+pub end_here : (ls : List Line) (s a i k : ℕ) → length ls ≤ i → descend (map view (drop i ls)) s k a ≡ inside s k
+unfolding descend
+end_here ls s a i k h = rw (drop_of_length-le ls {i = i} h)
 
-  -- besides, the line at i leads down, if it is one of the n
-  pub record Next (from i : ℕ) : Type 0 where
-    pub passed : Passed from i
-    pub down : i < n → leads s a (view (get_or ls i zeros)) ≡ true
+-- the way down has come to s, k steps below the root r: what it tells from there, in the lines from i on, is what it tells from the root
+unfoldable pub Come : List Line → ℕ → ℕ → ℕ → ℕ → ℕ → Type 0
+Come ls r a s k i = descend (map view (drop i ls)) s k a ≡ descend (map view ls) r 0 a
 
-  pub pass_start : (i : ℕ) → Passed i i
-  pass_start i = record { low = omega arith; same = λ k. refl }
+module _ (ls : List Line) (r a : ℕ) where
+  pub way_starts : Come ls r a r 0 0
+  unfolding Come
+  way_starts = refl
 
-  module _ (from i : ℕ) (p : Passed from i) where
-    pub pass_hit : (b : Bool) → b ≡ leads s a (view (get_or ls i zeros)) → b ≡ true → Next from i
-    pass_hit b e t = record { passed = p; down = λ h. sym e ∙ t }
+  module _ (s k i : ℕ) (c : Come ls r a s k i) (h : i < length ls) where
+    pub way_leads : (b : Bool) → b ≡ leads s a (view (get_or ls i zeros)) → b ≡ true → Come ls r a (get_or ls i zeros).id.0 (k + 1) (i + 1)
+    unfolding Come descend
+    way_leads b e t =
+        let goes : descend (map view (drop i ls)) s k a ≡ descend (map view (drop (i + 1) ls)) (get_or ls i zeros).id.0 (k + 1) a = rw (drop-cons ls i zeros h, add-one i, sym e ∙ t) in
+        sym goes ∙ c
 
-    pub pass_end : n ≤ i → Next from i
-    pass_end h = record { passed = p; down = λ l. absurd (omega arith) }
+    pub way_passes : (b : Bool) → b ≡ leads s a (view (get_or ls i zeros)) → b ≡ false → Come ls r a s k (i + 1)
+    unfolding Come descend
+    way_passes b e f =
+        let stays : descend (map view (drop i ls)) s k a ≡ descend (map view (drop (i + 1) ls)) s k a = rw (drop-cons ls i zeros h, add-one i, sym e ∙ f) in
+        sym stays ∙ c
 
-    pub pass_more : n ≤ length ls → i < n → (b : Bool) → b ≡ leads s a (view (get_or ls i zeros)) → b ≡ false → Passed from (i + 1)
-    unfolding descend
-    pass_more short h b e f = record { low = omega (arith, p.low); same = λ k. p.same k ∙ rw (from_here store_line n ls short i h, sym e ∙ f) }
+  pub way_ends : (s k i : ℕ) → Come ls r a s k i → length ls ≤ i → inside s k ≡ descend (map view ls) r 0 a
+  unfolding Come
+  way_ends s k i c h = sym (end_here ls s a i k h) ∙ c
 
-  -- behind the last line the way is at its end
-  pub end_here : n ≤ length ls → (i k : ℕ) → n ≤ i → descend (drop i (live store_line n ls)) s k a ≡ inside s k
-  unfolding descend
-  end_here short i k h = rw (from_end store_line n ls short i h)
+-- the lines that are listed, read as stores: none, or the root's line and those that follow it
+pub find_none : (ss : List Store) (a : ℕ) (ls : List Line) → map view ls ≡ ss → length ls ≡ 0 → outside ≡ descent ss a
+unfolding descent
+find_none ss a [] read e = rw (sym read)
+find_none ss a (x ∷ ls) read e = absurd (omega arith)
 
-  module _ (short : n ≤ length ls) (from i k : ℕ) (r : Next from i) where
-    -- no child leads on: here is the answer
-    pub way_ends : n ≤ i → inside s k ≡ descend (drop from (live store_line n ls)) s k a
-    unfolding descend
-    way_ends h = sym (r.passed.same k ∙ rw (from_end store_line n ls short i h))
+module _ (ss : List Store) (a : ℕ) (x : Line) (b : Bool) (e : b ≡ whole (view x) holds a) where
+  first : (ls xs : List Line) → map view ls ≡ ss → ls ≡ x ∷ xs → ss ≡ view x ∷ map view xs
+  first ls xs read split = sym read ∙ ap (map view) split
 
-    pub way_leads : i < n → descend (drop (i + 1) (live store_line n ls)) (view (get_or ls i zeros)).start (k + 1) a ≡ descend (drop from (live store_line n ls)) s k a
-    unfolding descend
-    way_leads h = sym (r.passed.same k ∙ rw (from_here store_line n ls short i h, r.down h))
-
--- the first n lines, where n is the number of stores listed, are what the struct reads as
-module _ (t : Stores) (long : length t.lines ≡ 64) (n : ℕ) (counted : n ≡ length (reading t)) where
-  few : n ≡ min t.count 64
-  unfolding reading
-  few = count_read store_line t.count n t.lines long counted
-
-  pub lines_fit : n ≤ 64
-  lines_fit = omega (arith, few)
-
-  read : live store_line n t.lines ≡ reading t
-  unfolding reading
-  read = lines_read store_line t.count n t.lines long few
-
-  -- the line of the root
-  abbrev root : Store
-  root = view (get_or t.lines 0 zeros)
-
-  pub find_none : (a : ℕ) → n ≡ 0 → outside ≡ descent (reading t) a
+  pub find_outside : b ≡ false → (ls xs : List Line) → map view ls ≡ ss → ls ≡ x ∷ xs → outside ≡ descent ss a
   unfolding descent
-  find_none a e = rw (← read, first_none store_line n t.lines (omega arith) e)
+  find_outside f ls xs read split = rw (first ls xs read split, sym e ∙ f)
 
-  module _ (a : ℕ) (some : 0 < n) (b : Bool) (e : b ≡ whole root holds a) where
-    first : reading t ≡ root ∷ drop 1 (live store_line n t.lines)
-    first = sym read ∙ first_line store_line n t.lines (omega (arith, few)) some
-
-    pub find_outside : b ≡ false → outside ≡ descent (reading t) a
-    unfolding descent
-    find_outside f = rw (first, sym e ∙ f)
-
-    pub find_inside : b ≡ true → descend (drop 1 (live store_line n t.lines)) root.start 0 a ≡ descent (reading t) a
-    unfolding descent
-    find_inside h = rw (first, sym e ∙ h)
+  pub find_inside : b ≡ true → (ls xs : List Line) → map view ls ≡ ss → ls ≡ x ∷ xs → descend (map view xs) x.id.0 0 a ≡ descent ss a
+  unfolding descent
+  find_inside h ls xs read split = rw (first ls xs read split, sym e ∙ h)

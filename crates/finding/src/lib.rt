@@ -1,107 +1,66 @@
-// Call 7: the deepest store whose total holds an address, found by going down from the root: the child of a store that holds the address is looked for,
-// and the search goes on in it. Whatever the lines say, each step down goes to a later line.
+// Call 7: the deepest store whose total holds an address, found by going down from the root: the next line that is a child of the store and holds the
+// address is the store to go on from. In a sound table a child's line follows its parent's, so one pass over the lines comes to the answer.
 #![tactic(auto)]
 
-ghost use Rattle.std.specs.Prelude.{◌≡◌, ◌≤◌, drop};
-ghost use Rattle.lines.specs.Shape.{live};
+ghost use Rattle.std.specs.Prelude.{◌≡◌, ◌<◌, length, map};
 ghost use Rattle.meaning.specs.Model.{◌holds◌, whole};
-ghost use Rattle.stores.specs.Stores.{view, store_line, reading};
-ghost use Rattle.finding.specs.Descent.{seen, outside, leads, descend, descent};
-ghost use Rattle.finding.specs.Steps.{Next};
+ghost use Rattle.stores.specs.Stores.{view, reading};
+ghost use Rattle.finding.specs.Descent.{seen, leads, descend, descent};
 
-use names::{Reply, Report, Store, StoreId};
+use lines::Lines;
+use names::{Area, Report, Store, StoreId};
 use stores::Stores;
 
-// What call 7 tells: its report and value, and the number of parent-to-child steps from the root to the answer.
+// What an accepted call 7 tells: the store, and the number of parent-to-child steps from the root to it.
 #[derive(Clone, Copy)]
 pub struct Found {
-    pub reply: Reply,
+    pub store: StoreId,
     pub steps: u32,
 }
 
-// The line's total holds the address. Where it ends is a whole number of 64 bits.
+// The line's total holds the address.
 fn holds(s: Store, address: u32) -> bool
     ensures { result ≡ whole (view s) holds address }
 {
-    let k = s.id;
-    if address < k.0 {
-        return false;
-    }
-    (address as u64) < (k.0 as u64) + (s.total as u64)
+    areas::holds(Area::new(s.id.0, s.total), address)
 }
 
 // The line is a child of the store, and holds the address.
+#[tactic(auto, unfolding(crate::specs::Descent::leads))]
 fn leads_down(s: Store, store: StoreId, address: u32) -> bool
     ensures { result ≡ leads store.0 address (view s) }
 {
-    let p = s.parent;
-    if p.0 != store.0 {
-        return false;
-    }
-    holds(s, address)
+    s.parent == store && holds(s, address)
 }
 
-// The place of the store's next child that holds the address, among the first n lines from a place on; n or more where there is none.
-fn next_child(lines: [Store; 64], n: usize, from: usize, store: StoreId, address: u32) -> usize
-    requires { n ≤ 64 }
-    ensures { Next n lines store.0 address from result }
+// From the root down to the answer, in the lines that follow the root's.
+#[tactic(auto, using(crate::specs::Steps::way_starts, crate::specs::Steps::way_leads, crate::specs::Steps::way_passes, crate::specs::Steps::way_ends))]
+fn descend(lines: &[Store], root: StoreId, address: u32) -> Found
+    requires { length lines.now < 64 }
+    ensures { seen (Ok result) ≡ descend (map view lines.now) root.0 0 address }
 {
-    let mut i = from;
-    while i < n {
-        if leads_down(lines[i], store, address) {
-            return i;
-        }
-        i += 1;
-    }
-    i
-}
-
-// From a store that is so many steps below the root down to the answer, in the lines from a place on.
-#[tactic(auto, using(crate::specs::Steps::end_here, crate::specs::Steps::way_leads))]
-fn descend(
-    lines: [Store; 64],
-    n: usize,
-    from: usize,
-    store: StoreId,
-    steps: u32,
-    address: u32,
-) -> Found
-    requires { (n ≤ 64) × (steps ≤ from) }
-    ensures { seen result ≡ descend (drop from (live store_line n lines)) store.0 steps address }
-{
-    let i = next_child(lines, n, from, store, address);
-    if n <= i {
-        return Found {
-            reply: Reply::accepted(store.0),
-            steps,
-        };
-    }
-    let s = lines[i];
-    descend(lines, n, i + 1, s.id, steps + 1, address)
-}
-
-// The address is outside the root's total.
-fn outside() -> Found
-    ensures { seen result ≡ outside }
-{
-    Found {
-        reply: Reply::refused(Report::UnknownAddress),
+    let mut found = Found {
+        store: root,
         steps: 0,
+    };
+    for line in lines {
+        if leads_down(*line, found.store, address) {
+            found = Found {
+                store: line.id,
+                steps: found.steps + 1,
+            };
+        }
     }
+    found
 }
 
 // Call 7.
-pub fn find(stores: Stores, address: u32) -> Found
+#[tactic(auto, using(crate::specs::Steps::find_inside, crate::specs::Steps::find_none))]
+pub fn find(stores: Stores, address: u32) -> Result<Found, Report>
     ensures { seen result ≡ descent (reading stores) address }
 {
-    let lines = stores.lines;
-    let n = stores.len();
-    if n == 0 {
-        return outside();
+    match stores.listed().split_first() {
+        Some((root, lines)) if holds(*root, address) => Ok(descend(lines, root.id, address)),
+        _ => Err(Report::UnknownAddress),
     }
-    let root = lines[0];
-    if !holds(root, address) {
-        return outside();
-    }
-    descend(lines, n, 1, root.id, 0, address)
 }

@@ -3,6 +3,7 @@
 
 ghost use Rattle.std.specs.Prelude.{◌<◌};
 
+use lines::Lines;
 use names::{Area, Stack, StackId, Store, StoreId, Thread, ThreadId};
 use stacks::Stacks;
 use stores::Stores;
@@ -30,17 +31,15 @@ fn sound() -> Table {
         stacks: Area::new(8192, 256),
     };
     let stores = Stores::new()
-        .with_store(store(4096, 1024, 300, 4096))
-        .with_store(store(4112, 116, 40, 4096))
-        .with_store(store(4128, 36, 0, 4112))
-        .with_store(store(4228, 100, 0, 4096));
+        .with(store(4096, 1024, 300, 4096))
+        .with(store(4112, 116, 40, 4096))
+        .with(store(4128, 36, 0, 4112))
+        .with(store(4228, 100, 0, 4096));
     let threads = Threads::new()
-        .with_thread(thread(1, 4096))
-        .with_thread(thread(7, 4112))
-        .with_thread(thread(9, 4128));
-    let stacks = Stacks::new()
-        .with_stack(stack(8192, 32))
-        .with_stack(stack(8400, 48));
+        .with(thread(1, 4096))
+        .with(thread(7, 4112))
+        .with(thread(9, 4128));
+    let stacks = Stacks::new().with(stack(8192, 32)).with(stack(8400, 48));
     Table {
         areas,
         free: Area::new(8224, 176),
@@ -50,71 +49,23 @@ fn sound() -> Table {
     }
 }
 
-fn with_areas(stores: Area, stacks: Area) -> Table {
-    let mut t = sound();
-    let areas = Areas { stores, stacks };
-    t.areas = areas;
-    t
-}
-
-fn with_store(i: usize, line: Store) -> Table
-    requires { i < 64 }
-{
-    let mut t = sound();
-    let mut stores = t.stores;
-    stores.lines[i] = line;
-    t.stores = stores;
-    t
-}
-
-fn with_store_count(count: u32) -> Table {
-    let mut t = sound();
-    let mut stores = t.stores;
-    stores.count = count;
-    t.stores = stores;
-    t
-}
-
-fn with_thread(i: usize, line: Thread) -> Table
-    requires { i < 32 }
-{
-    let mut t = sound();
-    let mut threads = t.threads;
-    threads.lines[i] = line;
-    t.threads = threads;
-    t
-}
-
 // Every line of the threads in use, under the count that is given.
-fn with_all_threads(count: u32) -> Table {
-    let mut t = sound();
+fn all_threads(count: u32) -> Threads {
     let mut threads = Threads::new();
     for id in 0..32 {
-        threads = threads.with_thread(thread(id, 4096));
+        threads = threads.with(thread(id, 4096));
     }
     threads.count = count;
-    t.threads = threads;
-    t
+    threads
 }
 
-fn with_stack(i: usize, line: Stack) -> Table
-    requires { i < 32 }
+// Forges the sound table and prints the lowest rule that it then breaks.
+fn say<F: FnOnce(&mut Table)>(rt: &impl Print, what: &str, forge: F)
+    requires { F.IsAlwaysCallable forge }
 {
-    let mut t = sound();
-    let mut stacks = t.stacks;
-    stacks.lines[i] = line;
-    t.stacks = stacks;
-    t
-}
-
-fn with_run(start: u32, length: u32) -> Table {
-    let mut t = sound();
-    t.free = Area::new(start, length);
-    t
-}
-
-fn say(rt: &impl Print, what: &str, t: Table) {
-    let rule = t.broken_rule();
+    let mut table = sound();
+    forge(&mut table);
+    let rule = table.broken_rule();
     let _ = println!(rt; "{rule} {what}");
 }
 
@@ -122,27 +73,42 @@ fn areas(rt: &impl Print) {
     say(
         rt,
         "store area of 15",
-        with_areas(Area::new(4096, 15), Area::new(8192, 256)),
+        |t| t.areas = Areas {
+            stores: Area::new(4096, 15),
+            stacks: Area::new(8192, 256),
+        },
     );
     say(
         rt,
         "store area of 16,777,217",
-        with_areas(Area::new(4096, 16777217), Area::new(33554432, 256)),
+        |t| t.areas = Areas {
+            stores: Area::new(4096, 16777217),
+            stacks: Area::new(33554432, 256),
+        },
     );
     say(
         rt,
         "stack area past the last end",
-        with_areas(Area::new(4096, 1024), Area::new(2147483648, 1)),
+        |t| t.areas = Areas {
+            stores: Area::new(4096, 1024),
+            stacks: Area::new(2147483648, 1),
+        },
     );
     say(
         rt,
         "sum of start and length past 32 bits",
-        with_areas(Area::new(4294967295, 1024), Area::new(8192, 256)),
+        |t| t.areas = Areas {
+            stores: Area::new(4294967295, 1024),
+            stacks: Area::new(8192, 256),
+        },
     );
     say(
         rt,
         "areas that share an address",
-        with_areas(Area::new(4096, 1024), Area::new(5119, 256)),
+        |t| t.areas = Areas {
+            stores: Area::new(4096, 1024),
+            stacks: Area::new(5119, 256),
+        },
     );
 }
 
@@ -150,71 +116,75 @@ fn roots(rt: &impl Print) {
     say(
         rt,
         "root smaller than the area",
-        with_store(0, store(4096, 1023, 300, 4096)),
+        |t| t.stores.lines[0] = store(4096, 1023, 300, 4096),
     );
     say(
         rt,
         "root with another parent",
-        with_store(0, store(4096, 1024, 300, 4112)),
+        |t| t.stores.lines[0] = store(4096, 1024, 300, 4112),
     );
-    say(rt, "no store at all", with_store_count(0));
+    say(rt, "no store at all", |t| t.stores.count = 0);
 }
 
 fn lines_of_stores(rt: &impl Print) {
     say(
         rt,
         "two stores of one start",
-        with_store(2, store(4112, 36, 0, 4096)),
+        |t| t.stores.lines[2] = store(4112, 36, 0, 4096),
     );
     say(
         rt,
         "parent that points forward",
-        with_store(1, store(4112, 116, 40, 4228)),
+        |t| t.stores.lines[1] = store(4112, 116, 40, 4228),
     );
     say(
         rt,
         "store that is its own parent",
-        with_store(1, store(4112, 116, 40, 4112)),
+        |t| t.stores.lines[1] = store(4112, 116, 40, 4112),
     );
     say(
         rt,
         "line left of a cleared nest",
-        with_store(1, store(4113, 16, 0, 4096)),
+        |t| t.stores.lines[1] = store(4113, 16, 0, 4096),
     );
-    say(rt, "store of 15", with_store(3, store(4228, 15, 0, 4096)));
-    say(rt, "count past the lines in use", with_store_count(5));
+    say(
+        rt,
+        "store of 15",
+        |t| t.stores.lines[3] = store(4228, 15, 0, 4096),
+    );
+    say(rt, "count past the lines in use", |t| t.stores.count = 5);
 }
 
 fn rooms(rt: &impl Print) {
     say(
         rt,
         "store grown through its parent's end",
-        with_store(2, store(4128, 200, 0, 4112)),
+        |t| t.stores.lines[2] = store(4128, 200, 0, 4112),
     );
     say(
         rt,
         "used that counts room nobody has",
-        with_store(3, store(4228, 100, 85, 4096)),
+        |t| t.stores.lines[3] = store(4228, 100, 85, 4096),
     );
     say(
         rt,
         "child in its parent's free part",
-        with_store(3, store(4400, 100, 0, 4096)),
+        |t| t.stores.lines[3] = store(4400, 100, 0, 4096),
     );
     say(
         rt,
         "child in its parent's overhead",
-        with_store(2, store(4127, 36, 0, 4112)),
+        |t| t.stores.lines[2] = store(4127, 36, 0, 4112),
     );
     say(
         rt,
         "siblings that overlap, not neighbours in the list",
-        with_store(3, store(4227, 100, 0, 4096)),
+        |t| t.stores.lines[3] = store(4227, 100, 0, 4096),
     );
     say(
         rt,
         "total whose end passes 32 bits",
-        with_store(3, store(4228, 4294967295, 0, 4096)),
+        |t| t.stores.lines[3] = store(4228, 4294967295, 0, 4096),
     );
 }
 
@@ -222,43 +192,79 @@ fn contexts(rt: &impl Print) {
     say(
         rt,
         "threads that do not rise",
-        with_thread(1, thread(1, 4112)),
+        |t| t.threads.lines[1] = thread(1, 4112),
     );
     say(
         rt,
         "context that is not listed",
-        with_thread(2, thread(9, 4129)),
+        |t| t.threads.lines[2] = thread(9, 4129),
     );
 }
 
 fn stacks(rt: &impl Print) {
-    say(rt, "stack of 7", with_stack(0, stack(8192, 7)));
-    say(rt, "stack outside the area", with_stack(1, stack(8401, 48)));
-    say(rt, "stack in the free run", with_stack(0, stack(8192, 33)));
+    say(rt, "stack of 7", |t| t.stacks.lines[0] = stack(8192, 7));
+    say(
+        rt,
+        "stack outside the area",
+        |t| t.stacks.lines[1] = stack(8401, 48),
+    );
+    say(
+        rt,
+        "stack in the free run",
+        |t| t.stacks.lines[0] = stack(8192, 33),
+    );
     say(
         rt,
         "two stacks that overlap",
-        with_stack(0, stack(8390, 32)),
+        |t| t.stacks.lines[0] = stack(8390, 32),
     );
 }
 
 fn runs(rt: &impl Print) {
-    say(rt, "free run a byte short", with_run(8224, 175));
-    say(rt, "free run outside the area", with_run(8448, 176));
-    say(rt, "empty run not at the area's end", with_run(8224, 0));
+    say(
+        rt,
+        "free run a byte short",
+        |t| t.free = Area::new(8224, 175),
+    );
+    say(
+        rt,
+        "free run outside the area",
+        |t| t.free = Area::new(8448, 176),
+    );
+    say(
+        rt,
+        "empty run not at the area's end",
+        |t| t.free = Area::new(8224, 0),
+    );
 }
 
 fn counts(rt: &impl Print) {
-    say(rt, "all 32 threads", with_all_threads(32));
-    say(rt, "33 threads", with_all_threads(33));
-    say(rt, "4,294,967,295 threads", with_all_threads(4294967295));
-    say(rt, "store past the count", with_store(4, store(0, 0, 1, 0)));
-    say(rt, "thread past the count", with_thread(31, thread(0, 1)));
-    say(rt, "stack past the count", with_stack(2, stack(1, 0)));
+    say(rt, "all 32 threads", |t| t.threads = all_threads(32));
+    say(rt, "33 threads", |t| t.threads = all_threads(33));
+    say(
+        rt,
+        "4,294,967,295 threads",
+        |t| t.threads = all_threads(4294967295),
+    );
+    say(
+        rt,
+        "store past the count",
+        |t| t.stores.lines[4] = store(0, 0, 1, 0),
+    );
+    say(
+        rt,
+        "thread past the count",
+        |t| t.threads.lines[31] = thread(0, 1),
+    );
+    say(
+        rt,
+        "stack past the count",
+        |t| t.stacks.lines[2] = stack(1, 0),
+    );
 }
 
 fn main(rt: HostRuntime) {
-    say(&rt, "nothing forged", sound());
+    say(&rt, "nothing forged", |_| ());
     areas(&rt);
     roots(&rt);
     lines_of_stores(&rt);

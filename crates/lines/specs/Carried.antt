@@ -1,5 +1,5 @@
 -- Loops that carry a number from line to line: a test in which the line before has a part, and a sum. Assumes nothing.
-use Rattle.std.specs.Prelude.{Bool, true, false, ◌&&◌, List, [], ◌∷◌, ◌≡◌, refl, ℕ, ◌+◌, ◌≤◌, ◌<◌, length, drop, get_or}
+use Rattle.std.specs.Prelude.{Bool, true, false, ◌&&◌, List, [], ◌∷◌, ◌≡◌, ℕ, ◌+◌, ◌≤◌, ◌<◌, length, drop, get_or}
 use Rattle.std.proofs.Math.Path.{sym}
 use Rattle.std.proofs.Common.{◌∙◌, ap, arith}
 use Rattle.lists.specs.Lists.{sum}
@@ -18,9 +18,6 @@ module _ {A B : Type 0} (σ : Shape A B) (p : ℕ → B → Bool) (leaves : B �
   Chained e i = chained p leaves first (live σ n ls) ≡ chained p leaves e (drop i (live σ n ls))
 
   module _ (short : n ≤ length ls) where
-    pub chain_start : Chained first 0
-    chain_start = refl
-
     pub chain_stop : (e i : ℕ) → i < n → p e (σ.view (get_or ls i σ.zeros)) ≡ false → Chained e i → false ≡ chained p leaves first (live σ n ls)
     unfolding chained
     chain_stop e i h q c = sym (c ∙ rw (from_here σ n ls short i h, q))
@@ -41,9 +38,6 @@ module _ {A B : Type 0} (σ : Shape A B) (f : B → ℕ) (first n : ℕ) (ls : L
   Summed s i = sum f (live σ n ls) + first ≡ sum f (drop i (live σ n ls)) + s
 
   module _ (short : n ≤ length ls) where
-    pub sum_start : Summed first 0
-    sum_start = refl
-
     pub sum_more : (s i : ℕ) → i < n → Summed s i → Summed (s + f (σ.view (get_or ls i σ.zeros))) (i + 1)
     sum_more s i h c =
         let e = ap (sum f) (from_here σ n ls short i h) in

@@ -1,12 +1,7 @@
--- A list in an array: Shape. Its places and keys: Search, Lookup, Halves, Keys. Loops that write it: Fill, Opened, Kept. Loops that read it: Tested, Rising, Carried.
+-- A list in an array: Shape. Its places and keys: Search, Lookup, Halves. A line written into it: Fill. Loops that carry a number from line to line: Carried.
 pub mod Shape
 pub mod Search
 pub mod Fill
-pub mod Opened
-pub mod Kept
-pub mod Tested
-pub mod Rising
 pub mod Lookup
 pub mod Halves
-pub mod Keys
 pub mod Carried

@@ -1,25 +1,22 @@
--- The first place at which a test holds, as a loop finds it, and looking up by key through it. Assumes nothing.
-use Rattle.std.specs.Prelude.{Bool, true, false, ◌≡◌, ltb, length, take, drop, get_or, if◌then◌else◌}
+-- The first place at which a test holds, and looking up by key through it. Assumes nothing.
+use Rattle.std.specs.Prelude.{Bool, ◌≡◌, ltb, length, take, drop, get_or, unwrap_or, option_map, Option, None, Some, if◌then◌else◌}
+use Rattle.std.specs.List.{find}
 use mathlib.Core.List.{List, [], ◌∷◌, ◌++◌}
 use Rattle.std.proofs.Math.Logic.{inl, inr}
 use Rattle.std.proofs.Math.Path.{refl, sym}
 use Rattle.std.proofs.Common.{◌∙◌, ap, lt-ltb}
-use Prim.Native.Nat.{ℕ, suc, ◌+◌, ◌≤◌, ◌<◌}
+use Prim.Native.Nat.{ℕ, suc, ◌≤◌, ◌<◌}
 use native.Mathlib.Omega.{arith}
 use Rattle.std.proofs.Math.Dec.{eqb, leb-suc-suc}
 use Rattle.lists.specs.Keyed.{has, at, insert}
 use Rattle.lists.specs.Tests.{tested}
-use Rattle.lines.specs.Shape.{Shape, live, from_here, from_end}
+use Rattle.lines.specs.Shape.{Shape}
 
 module _ {A : Type 0} (p : A → Bool) where
   -- how many elements stand before the first that passes the test; all of them where none does
   unfoldable pub place : List A → ℕ
   place [] = 0
   place (x ∷ l) = if p x then 0 else suc (place l)
-
-  -- a loop that has come to i without a hit: the answer from the start is the answer from here
-  abbrev pub Sought : List A → ℕ → Type 0
-  Sought l i = place l ≡ i + place (drop i l)
 
   pub place_most : (l : List A) → place l ≤ length l
   unfolding place
@@ -28,26 +25,6 @@ module _ {A : Type 0} (p : A → Bool) where
     | inl e ↦ rw e (omega arith)
     | inr e ↦ let h = place_most l in rw e (omega arith)
   ]
-
--- ---- a loop over the first n lines of an array
-
-module _ {A B : Type 0} (σ : Shape A B) (p : B → Bool) (n : ℕ) (ls : List A) (short : n ≤ length ls) where
-  pub seek_start : Sought p (live σ n ls) 0
-  seek_start = omega arith
-
-  pub seek_hit : (i : ℕ) → i < n → p (σ.view (get_or ls i σ.zeros)) ≡ true → Sought p (live σ n ls) i → i ≡ place p (live σ n ls)
-  unfolding place
-  seek_hit i h e s = let z : place p (drop i (live σ n ls)) ≡ 0 = rw (from_here σ n ls short i h, e) in omega arith
-
-  pub seek_miss : (i : ℕ) → i < n → p (σ.view (get_or ls i σ.zeros)) ≡ false → Sought p (live σ n ls) i → Sought p (live σ n ls) (i + 1)
-  unfolding place
-  seek_miss i h e s =
-      let z : place p (drop i (live σ n ls)) ≡ suc (place p (drop (i + 1) (live σ n ls))) = rw (from_here σ n ls short i h, e) in
-      omega arith
-
-  pub seek_end : (i : ℕ) → n ≤ i → Sought p (live σ n ls) i → i ≡ place p (live σ n ls)
-  unfolding place
-  seek_end i h s = let z : place p (drop i (live σ n ls)) ≡ 0 = rw (from_end σ n ls short i h) in omega arith
 
 -- ---- looking up by key
 
@@ -77,3 +54,21 @@ module _ {A : Type 0} (key : A → ℕ) where
     | inl e ↦ rw e
     | inr e ↦ rw e (ap (λ t. x ∷ t) (insert_place n l))
   ]
+
+  -- what is found by a key, and what there is where nothing is
+  pub at_find : (none : ℕ → A) (l : List A) (k : ℕ) → at key none l k ≡ unwrap_or (find (λ x. eqb (key x) k) l) (none k)
+  at_find none [] k = refl
+  at_find none (x ∷ l) k = elim (tested (eqb (key x) k)) [
+    | inl e ↦ rw e
+    | inr e ↦ rw e (at_find none l k)
+  ]
+
+module _ {A B : Type 0} (σ : Shape A B) (key : B → ℕ) (none : ℕ → B) where
+  or_back : (o : Option A) (a : A) (b : B) → a ≡ σ.back b → unwrap_or o a ≡ σ.back (unwrap_or (option_map σ.view o) b)
+  or_back None a b e = e
+  or_back (Some x) a b e = sym (σ.back_view x)
+
+  -- the line that is found, or another where none is
+  pub line_found : (l : List B) (k : ℕ) (o : Option A) (a : A) → option_map σ.view o ≡ find (λ x. eqb (key x) k) l → a ≡ σ.back (none k)
+      → unwrap_or o a ≡ σ.back (at key none l k)
+  line_found l k o a f e = or_back o a (none k) e ∙ ap (λ p. σ.back (unwrap_or p (none k))) f ∙ ap σ.back (sym (at_find key none l k))

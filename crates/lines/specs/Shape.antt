@@ -44,6 +44,11 @@ module _ {A B : Type 0} (σ : Shape A B) where
   pub live_full : (n : ℕ) (ls : List A) → n ≤ length ls → length (live n ls) ≡ n
   live_full n ls short = live_length n ls ∙ min-eq_left short
 
+  -- all lines there are
+  pub live_whole : (ls : List A) → live (length ls) ls ≡ map σ.view ls
+  unfolding live
+  live_whole ls = ap (map σ.view) (take_all (length ls) ls (omega arith))
+
   pub pad_length : (xs : List B) → length xs ≤ σ.limit → length (pad xs) ≡ σ.limit
   unfolding pad
   pad_length xs h = simp (length-append, length-map, length-replicate) (omega arith)

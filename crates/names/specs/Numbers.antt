@@ -1,6 +1,5 @@
 -- The number of each report: document 01, "Report numbers"; and what is told of a call in these numbers. Assumes nothing.
-use Rattle.std.specs.Prelude.{ℕ}
-use Rattle.names.specs.declared.report.Reply.{Reply}
+use Rattle.std.specs.Prelude.{ℕ, Result, Ok, Err}
 use Rattle.names.specs.declared.report.Report.{Report}
 use Rattle.names.specs.declared.report.Report.TheVariants.{Accepted, OutOfMemory, NotEmpty, SizeTooSmall, NoSuchStore, StoreInUse, RootResize, NotOnlyChild, UnknownAddress, NoSuchStack, CannotShrink, NoThreadContext, Fragmentation, TableFull, BadArea, UnsoundTable}
 
@@ -27,5 +26,7 @@ pub record Told : Type 0 where
   pub report : ℕ
   pub value : ℕ
 
-abbrev pub told_of : Reply → Told
-told_of r = record { report = number_of r.report; value = r.value }
+-- an accepted call has report 0 and its value; a refusal has its report and value 0
+abbrev pub told_of : Result ℕ Report → Told
+told_of (Ok v) = record { report = 0; value = v }
+told_of (Err r) = record { report = number_of r; value = 0 }

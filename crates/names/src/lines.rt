@@ -1,5 +1,5 @@
 // The areas, the lines of the table, and the block of an allocation. The overheads 16, 8 and 4 stand here once, each beside
-// what it belongs to. A size and its overhead are added in 64 bits, so that the sum is the whole number.
+// what it belongs to. A size and its overhead are added in 64 bits, so that the sum is the whole number; a trait for `taken` would be longer than its three sums.
 ghost use Rattle.std.specs.Prelude.{◌≡◌};
 ghost use Rattle.names.specs.Overhead.{block_taken, store_taken, stack_taken};
 
@@ -7,7 +7,7 @@ use crate::ids::{StackId, StoreId, ThreadId};
 
 // A run of addresses.
 #[repr(C)]
-#[derive(Clone, Copy)]
+#[derive(Clone, Copy, PartialEq, Eq)]
 pub struct Area {
     pub start: u32,
     pub length: u32,
@@ -15,7 +15,7 @@ pub struct Area {
 
 // A backing store: its first address is its identifier, and its total counts the overhead.
 #[repr(C)]
-#[derive(Clone, Copy)]
+#[derive(Clone, Copy, PartialEq, Eq)]
 pub struct Store {
     pub id: StoreId,
     pub total: u32,
@@ -25,7 +25,7 @@ pub struct Store {
 
 // A thread with its allocation context.
 #[repr(C)]
-#[derive(Clone, Copy)]
+#[derive(Clone, Copy, PartialEq, Eq)]
 pub struct Thread {
     pub id: ThreadId,
     pub context: StoreId,
@@ -33,14 +33,14 @@ pub struct Thread {
 
 // A thread stack: its first address is its identifier, and its total counts the overhead.
 #[repr(C)]
-#[derive(Clone, Copy)]
+#[derive(Clone, Copy, PartialEq, Eq)]
 pub struct Stack {
     pub id: StackId,
     pub total: u32,
 }
 
 // The block of an allocation: its first address, and the bytes asked for.
-#[derive(Clone, Copy)]
+#[derive(Clone, Copy, PartialEq, Eq)]
 pub struct Block {
     pub start: u32,
     pub size: u32,
@@ -73,7 +73,7 @@ impl Store {
     pub fn taken(n: u32) -> u64
         ensures { result ≡ store_taken n }
     {
-        (n as u64) + (Self::OVERHEAD as u64)
+        u64::from(n) + u64::from(Self::OVERHEAD)
     }
 }
 
@@ -98,7 +98,7 @@ impl Stack {
     pub fn taken(n: u32) -> u64
         ensures { result ≡ stack_taken n }
     {
-        (n as u64) + (Self::OVERHEAD as u64)
+        u64::from(n) + u64::from(Self::OVERHEAD)
     }
 }
 
@@ -115,6 +115,6 @@ impl Block {
     pub fn taken(n: u32) -> u64
         ensures { result ≡ block_taken n }
     {
-        (n as u64) + (Self::OVERHEAD as u64)
+        u64::from(n) + u64::from(Self::OVERHEAD)
     }
 }

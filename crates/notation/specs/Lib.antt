@@ -1,5 +1,6 @@
 pub mod Numbers
 pub mod Notation
+pub mod Told
 pub mod Runs
 pub mod Spelled
 pub mod ReadBack

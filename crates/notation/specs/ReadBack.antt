@@ -1,6 +1,6 @@
 -- What is spelled is read: every call that there is, with blanks before it and anything before those, is read back from its notation, and the place after it
 -- is where the rest of the text begins. Assumes nothing.
-use Rattle.std.specs.Prelude.{Bool, true, ◌≡◌, leb, get_or}
+use Rattle.std.specs.Prelude.{Bool, true, ◌≡◌, leb, get_or, take_while, Some, None, Ok}
 use mathlib.Core.List.{List, [], ◌∷◌, ◌++◌, append-nil, append_assoc}
 use Rattle.std.proofs.Math.Path.{refl, ap}
 use Rattle.std.proofs.Common.{sym, ◌∙◌, ap₂, drop-drop, get_or-drop}
@@ -9,29 +9,26 @@ use native.Mathlib.Omega.{arith}
 use Rattle.std.proofs.Math.ListN.{length, take, drop, length-append, length-drop}
 use Rattle.std.proofs.Math.Seq.{drop-append_seam, take_all}
 use borrow.Author.Tests.{leb-true, lt-ltb, le-leb, lt-leb, eq-eqb, ne_eqb}
+use Rattle.std.proofs.lemmas.List.Sums.{take_while-cons}
 use Rattle.lists.specs.Lists.{all}
 use Rattle.lists.specs.Tests.{and_iff}
 use Rattle.texts.specs.Record.{counts}
 use Rattle.texts.specs.Decimal.{decimal, is_digit}
 use Rattle.texts.proofs.DecimalLaws.{value_decimal, decimal_digits, decimal_some}
-use Rattle.notation.specs.Numbers.{front, number_at}
-use Rattle.notation.specs.Notation.{is_blank, past_blanks, stands, ends, argument, closed, arguments, opened, call_at, written}
+use Rattle.notation.specs.Numbers.{number_at}
+use Rattle.notation.specs.Notation.{is_blank, past_blanks, stands, after_byte, ends, argument, closed, arguments, opened, call_at, written}
 use Rattle.notation.specs.Runs.{digit_low}
 use Rattle.notation.specs.Spelled.{behind, joined, spelled}
-use Rattle.notation.specs.declared.Number.TheVariants.{Is}
-use Rattle.notation.specs.declared.Written.{Written}
-use Rattle.notation.specs.declared.Written.TheVariants.{Call as call, End}
+use Rattle.notation.specs.declared.Call.{Call}
 
 -- ---- runs at the front
 
-front_all : (p : ℕ → Bool) (l rest : List ℕ) → all p l ≡ true → front p (l ++ rest) ≡ l ++ front p rest
-unfolding front
+front_all : (p : ℕ → Bool) (l rest : List ℕ) → all p l ≡ true → take_while p (l ++ rest) ≡ l ++ take_while p rest
 front_all p [] rest h = refl
-front_all p (b ∷ l) rest h = let e = (and_iff (p b) (all p l)).0 h in rw (e.0, front_all p l rest e.1)
+front_all p (b ∷ l) rest h = let e = (and_iff (p b) (all p l)).0 h in rw (take_while-cons p b (l ++ rest), e.0, front_all p l rest e.1)
 
 -- digits are no blanks
-digit_first : (l rest : List ℕ) → all is_digit l ≡ true → 0 < length l → front is_blank (l ++ rest) ≡ []
-unfolding front
+digit_first : (l rest : List ℕ) → all is_digit l ≡ true → 0 < length l → take_while is_blank (l ++ rest) ≡ []
 digit_first [] rest h some = absurd (omega arith)
 digit_first (b ∷ l) rest h some =
     let e = (and_iff (is_digit b) (all is_digit l)).0 h in
@@ -76,18 +73,18 @@ module _ (text : List ℕ) where
   number_spelled
       : (at n : ℕ) (rest : List ℕ)
       → drop at text ≡ decimal n ++ rest
-      → front is_digit rest ≡ []
+      → take_while is_digit rest ≡ []
       → is_word n ≡ true
-      → number_at text at ≡ Is n (at + length (decimal n))
+      → number_at text at ≡ Ok (n, at + length (decimal n))
   unfolding number_at
   number_spelled at n rest e stop w =
-      let f : front is_digit (drop at text) ≡ decimal n = ap (front is_digit) e ∙ front_all is_digit (decimal n) rest (decimal_digits n) ∙ ap (λ l. decimal n ++ l) stop ∙ append-nil (decimal n) in
+      let f : take_while is_digit (drop at text) ≡ decimal n = ap (take_while is_digit) e ∙ front_all is_digit (decimal n) rest (decimal_digits n) ∙ ap (λ l. decimal n ++ l) stop ∙ append-nil (decimal n) in
       rw (f, lt-ltb 0 (length (decimal n)) (decimal_some n), value_decimal n, w)
 
   -- ---- arguments
 
-  behind_stop : (xs rest : List ℕ) → front is_digit (behind xs ++ (41 ∷ rest)) ≡ []
-  unfolding front behind
+  behind_stop : (xs rest : List ℕ) → take_while is_digit (behind xs ++ (41 ∷ rest)) ≡ []
+  unfolding behind
   behind_stop [] rest = refl
   behind_stop (x ∷ xs) rest = refl
 
@@ -97,8 +94,8 @@ module _ (text : List ℕ) where
       → 0 < j
       → all is_word xs ≡ true
       → drop at text ≡ behind xs ++ (41 ∷ rest)
-      → argument text (j + length xs) (j + k) (at + length (behind (take k xs))) ≡ Is (get_or xs k 0) (at + length (behind (take (suc k) xs)))
-  unfolding argument behind
+      → argument text (j + length xs) (j + k) (at + length (behind (take k xs))) ≡ Ok (get_or xs k 0, at + length (behind (take (suc k) xs)))
+  unfolding argument after_byte behind
   behind-read rest [] j zero at p w e = rw (le-leb (j + 0) (j + 0) (omega arith))
   behind-read rest [] j (suc k) at p w e = rw (le-leb (j + 0) (j + suc k) (omega arith))
   behind-read rest (x ∷ xs) j zero at p w e =
@@ -122,8 +119,8 @@ module _ (text : List ℕ) where
       : (rest xs : List ℕ) (k at : ℕ)
       → all is_word xs ≡ true
       → drop at text ≡ joined xs ++ (41 ∷ rest)
-      → argument text (length xs) k (at + length (joined (take k xs))) ≡ Is (get_or xs k 0) (at + length (joined (take (suc k) xs)))
-  unfolding argument joined behind
+      → argument text (length xs) k (at + length (joined (take k xs))) ≡ Ok (get_or xs k 0, at + length (joined (take (suc k) xs)))
+  unfolding argument after_byte joined behind
   joined-read rest [] zero at w e = refl
   joined-read rest [] (suc k) at w e = rw (le-leb 0 (suc k) (omega arith))
   joined-read rest (x ∷ xs) zero at w e =
@@ -149,23 +146,23 @@ module _ (text : List ℕ) where
   ends_before at (x ∷ rest) e b = rw (lt-leb (length text) at (inside at x rest e), first_of at x rest e) b
 
   module _ (code : ℕ) (xs rest : List ℕ) (few : length xs ≡ get_or counts code 0) (words : all is_word xs ≡ true) (after : blank_first rest ≡ true) where
-    closed_read : (a b c d n : ℕ) → drop n text ≡ 41 ∷ rest → closed text (record { code = code; a = a; b = b; c = c; d = d; next = n }) ≡ call (record { code = code; a = a; b = b; c = c; d = d; next = n + 1 })
-    unfolding closed
-    closed_read a b c d n e = rw (stands_first n 41 rest e, ends_before (n + 1) rest (past n (41 ∷ []) rest e) after)
+    closed_read : (n : ℕ) → drop n text ≡ 41 ∷ rest → closed text n ≡ Ok (n + 1)
+    unfolding closed after_byte
+    closed_read n e = rw (stands_first n 41 rest e, ends_before (n + 1) rest (past n (41 ∷ []) rest e) after)
 
-    abbrev read : ℕ → Written
-    read next = call (record { code = code; a = get_or xs 0 0; b = get_or xs 1 0; c = get_or xs 2 0; d = get_or xs 3 0; next = next })
+    abbrev call : ℕ → Call
+    call next = record { code = code; numbers = get_or xs 0 0 ∷ get_or xs 1 0 ∷ get_or xs 2 0 ∷ get_or xs 3 0 ∷ []; next = next }
 
-    arguments_read : (at : ℕ) → drop at text ≡ joined xs ++ (41 ∷ rest) → arguments text code at ≡ read (at + length (joined xs) + 1)
+    arguments_read : (at : ℕ) → drop at text ≡ joined xs ++ (41 ∷ rest) → arguments text code at ≡ Ok (call (at + length (joined xs) + 1))
     unfolding arguments joined
     arguments_read at e =
         let z : at ≡ at + length (joined (take 0 xs)) = omega arith in
         let whole : take 4 xs ≡ xs = take_all 4 xs (omega (arith, counts_few code)) in
         let first = ap (argument text (length xs) 0) z ∙ joined-read rest xs 0 at words e in
-        rw (sym few, first, joined-read rest xs 1 at words e, joined-read rest xs 2 at words e, joined-read rest xs 3 at words e, whole) (closed_read _ _ _ _ (at + length (joined xs)) (past at (joined xs) (41 ∷ rest) e))
+        rw (sym few, first, joined-read rest xs 1 at words e, joined-read rest xs 2 at words e, joined-read rest xs 3 at words e, whole, closed_read (at + length (joined xs)) (past at (joined xs) (41 ∷ rest) e))
 
-    call_read : (at : ℕ) → code ≤ 15 → drop at text ≡ spelled code xs ++ rest → call_at text at ≡ read (at + length (spelled code xs))
-    unfolding call_at opened spelled front
+    call_read : (at : ℕ) → code ≤ 15 → drop at text ≡ spelled code xs ++ rest → call_at text at ≡ Ok (call (at + length (spelled code xs)))
+    unfolding call_at opened after_byte spelled
     call_read at h e =
         let p = at + length (decimal code) in
         let g : drop at text ≡ decimal code ++ (40 ∷ (joined xs ++ (41 ∷ rest))) = e ∙ simp append_assoc in
@@ -174,7 +171,7 @@ module _ (text : List ℕ) where
         rw (number_spelled at code (40 ∷ (joined xs ++ (41 ∷ rest))) g refl (le-leb code 4294967295 (omega arith)), le-leb code 15 h, stands_first p 40 _ o, n)
         (arguments_read (p + 1) (past p (40 ∷ []) (joined xs ++ (41 ∷ rest)) o))
 
-code_first : (code : ℕ) (xs rest : List ℕ) → front is_blank (spelled code xs ++ rest) ≡ []
+code_first : (code : ℕ) (xs rest : List ℕ) → take_while is_blank (spelled code xs ++ rest) ≡ []
 unfolding spelled
 code_first code xs rest = rw (append_assoc (decimal code) (40 ∷ (joined xs ++ (41 ∷ []))) rest) (digit_first (decimal code) _ (decimal_digits code) (decimal_some code))
 
@@ -193,22 +190,22 @@ pub read_back
     → all is_blank blanks ≡ true
     → blank_first rest ≡ true
     → written (before ++ (blanks ++ (spelled code xs ++ rest))) (length before)
-    ≡ call (record { code = code; a = get_or xs 0 0; b = get_or xs 1 0; c = get_or xs 2 0; d = get_or xs 3 0; next = length before + length blanks + length (spelled code xs) })
+    ≡ Ok (Some (record { code = code; numbers = get_or xs 0 0 ∷ get_or xs 1 0 ∷ get_or xs 2 0 ∷ get_or xs 3 0 ∷ []; next = length before + length blanks + length (spelled code xs) }))
 unfolding written past_blanks
 read_back before blanks code xs rest h few words blank after =
     let text = before ++ (blanks ++ (spelled code xs ++ rest)) in
     let at = length before + length blanks in
     let d = drop-append_seam before (blanks ++ (spelled code xs ++ rest)) in
-    let f : front is_blank (drop (length before) text) ≡ blanks =
-    ap (front is_blank) d ∙ front_all is_blank blanks (spelled code xs ++ rest) blank ∙ ap (λ l. blanks ++ l) (code_first code xs rest) ∙ append-nil blanks in
+    let f : take_while is_blank (drop (length before) text) ≡ blanks =
+    ap (take_while is_blank) d ∙ front_all is_blank blanks (spelled code xs ++ rest) blank ∙ ap (λ l. blanks ++ l) (code_first code xs rest) ∙ append-nil blanks in
     let long : at < length text = let some = spelled_some code xs in simp length-append (omega arith) in
-    rw (f, lt-leb (length text) at long) (call_read text code xs rest few words after at h (past text (length before) blanks (spelled code xs ++ rest) d))
+    rw (f, lt-leb (length text) at long, call_read text code xs rest few words after at h (past text (length before) blanks (spelled code xs ++ rest) d))
 
 -- only blanks left
-pub read_end : (before blanks : List ℕ) → all is_blank blanks ≡ true → written (before ++ blanks) (length before) ≡ End
-unfolding written past_blanks front
+pub read_end : (before blanks : List ℕ) → all is_blank blanks ≡ true → written (before ++ blanks) (length before) ≡ Ok None
+unfolding written past_blanks
 read_end before blanks blank =
-    let f : front is_blank (drop (length before) (before ++ blanks)) ≡ blanks =
-    ap (front is_blank) (drop-append_seam before blanks ∙ sym (append-nil blanks)) ∙ front_all is_blank blanks [] blank ∙ append-nil blanks in
+    let f : take_while is_blank (drop (length before) (before ++ blanks)) ≡ blanks =
+    ap (take_while is_blank) (drop-append_seam before blanks ∙ sym (append-nil blanks)) ∙ front_all is_blank blanks [] blank ∙ append-nil blanks in
     let most : length (before ++ blanks) ≤ length before + length blanks = simp length-append (omega arith) in
     rw (f, le-leb (length (before ++ blanks)) (length before + length blanks) most)

@@ -1,263 +1,194 @@
 // Reads a call list in document 01's own notation, as `0(4096,256,8192,64) 14(1,4096) 8(1,20)`, one call after the other.
+// Text and place stay two parameters: of a cursor that moves, each contract would have to say too that its text stays, and where it then stands.
 #![tactic(auto)]
 
-ghost use Rattle.std.specs.Prelude.{◌≡◌, ◌+◌, ◌-◌, ◌*◌, ◌≤◌, min};
-ghost use Rattle.texts.specs.Decimal.{is_digit};
-ghost use Rattle.notation.specs.Numbers.{number_at, digits_from};
-ghost use Rattle.notation.specs.Notation.{is_blank, past_blanks, stands, ends, argument, refused, closed, arguments, opened, call_at, written};
+ghost use Rattle.std.specs.Prelude.{◌≡◌, ◌≤◌, min, Some, drop, length};
+ghost use Rattle.std.specs.List.{prefix_len};
+ghost use Rattle.texts.specs.Decimal.{is_digit, value};
+ghost use Rattle.notation.specs.Numbers.{number_at};
+ghost use Rattle.notation.specs.Told.{fault_told};
+ghost use Rattle.notation.specs.Notation.{is_blank, past_blanks, after_byte, ends, argument, closed, arguments, call_at, written};
 
+use std::error::Error;
+use std::fmt;
 use texts::COUNTS;
 
-// What stands at a place of the text: a call, nothing more, or what is no call, with the place where it goes wrong.
-#[derive(Clone, Copy)]
-pub enum Written {
-    Call(Call),
-    End,
-    Bad(usize),
+// What stands at a place of the text is no call: the place where it goes wrong.
+#[derive(Clone, Copy, Debug, PartialEq, Eq)]
+pub struct Fault {
+    pub place: usize,
 }
 
+impl fmt::Display for Fault {
+    ghost output = { λ fault. Some (fault_told fault) };
+
+    fn fmt<W: fmt::Write>(&self, f: &mut fmt::Formatter<W>) -> fmt::Result {
+        write!(f, "bad text at byte {}", self.place)
+    }
+}
+
+impl Error for Fault {}
+
 // A call with its numbers, 0 for those that it lacks, and the place after it.
+// It stands by its code, and not as call_list's record: these are the text's own numbers, as record_bytes writes them, and notation does not stand on call_list.
 #[derive(Clone, Copy)]
 pub struct Call {
     pub code: u8,
-    pub a: u32,
-    pub b: u32,
-    pub c: u32,
-    pub d: u32,
+    pub numbers: [u32; 4],
     pub next: usize,
 }
-
-// A number and the place after it, or the place where it goes wrong.
-#[derive(Clone, Copy)]
-pub enum Number {
-    Is(u32, usize),
-    Not(usize),
-}
-
-// The value of some digits, or `ABOVE` where that is less, and the place after them.
-#[derive(Clone, Copy)]
-pub struct Digits {
-    pub value: u64,
-    pub next: usize,
-}
-
-// The first number that has no place in a record.
-const ABOVE: u64 = 4294967296;
 
 const LAST_CODE: u32 = 15;
 
-// The next call from a place on.
-pub fn read(text: &[u8], place: usize) -> Written
+// The next call from a place on, or none where only blanks are left.
+#[tactic(auto, unfolding(crate::specs::Notation::written))]
+pub fn read(text: &[u8], place: usize) -> Result<Option<Call>, Fault>
     ensures { result ≡ written text.now place }
 {
     let at = past_blanks(text, place);
     if text.len() <= at {
-        return Written::End;
+        return Ok(None);
     }
-    call_at(text, at)
+    Ok(Some(call_at(text, at)?))
 }
 
 // The first place from `place` on that holds no blank.
+#[tactic(auto, unfolding(crate::specs::Notation::past_blanks))]
 fn past_blanks(text: &[u8], place: usize) -> usize
     ensures { result ≡ past_blanks text.now place }
 {
-    let mut i = place;
-    while i < text.len() {
-        if !is_blank(text[i]) {
-            return i;
-        }
-        i += 1;
-    }
-    i
+    place + blank_count(rest_at(text, place))
+}
+
+// The text from a place on, and nothing behind its end.
+fn rest_at(text: &[u8], at: usize) -> &[u8]
+    ensures { result.now ≡ drop at text.now }
+{
+    text.get(at..).unwrap_or_default()
+}
+
+// How many blanks a text begins with.
+fn blank_count(text: &[u8]) -> usize
+    ensures count { result ≡ prefix_len is_blank text.now }
+    ensures within { result ≤ length text.now }
+{
+    text.iter().take_while(|b| is_blank(**b)).count()
 }
 
 fn is_blank(b: u8) -> bool
     ensures { result ≡ is_blank b }
 {
-    if b == b' ' {
-        return true;
-    }
-    if b == b'\t' {
-        return true;
-    }
-    if b == b'\n' {
-        return true;
-    }
-    b == b'\r'
+    matches!(b, b' ' | b'\t' | b'\n' | b'\r')
 }
 
 // The call that begins at a place.
-fn call_at(text: &[u8], at: usize) -> Written
+#[tactic(auto, unfolding(crate::specs::Notation::call_at, crate::specs::Notation::opened))]
+fn call_at(text: &[u8], at: usize) -> Result<Call, Fault>
     ensures { result ≡ call_at text.now at }
 {
-    match number_at(text, at) {
-        Number::Not(wrong) => Written::Bad(wrong),
-        Number::Is(code, next) => opened(text, at, code, next),
-    }
-}
-
-// The rest of the call whose code begins at `at` and ends before `next`.
-fn opened(text: &[u8], at: usize, code: u32, next: usize) -> Written
-    ensures { result ≡ opened text.now at code next }
-{
+    let (code, next) = number_at(text, at)?;
     if LAST_CODE < code {
-        return Written::Bad(at);
+        return Err(Fault { place: at });
     }
-    if !stands(text, next, b'(') {
-        return Written::Bad(next);
-    }
-    arguments(text, code as u8, next + 1)
+    let first = after_byte(text, next, b'(')?;
+    arguments(text, code as u8, first)
 }
 
 // The rest of the call whose arguments begin at a place.
-fn arguments(text: &[u8], code: u8, at: usize) -> Written
+#[tactic(auto, unfolding(crate::specs::Notation::arguments))]
+fn arguments(text: &[u8], code: u8, at: usize) -> Result<Call, Fault>
     requires { code ≤ 15 }
     ensures { result ≡ arguments text.now code at }
 {
     let count = COUNTS[code as usize];
-    let first = argument(text, count, 0, at);
-    let Number::Is(a, second_at) = first else {
-        return refused(first);
-    };
-    let second = argument(text, count, 1, second_at);
-    let Number::Is(b, third_at) = second else {
-        return refused(second);
-    };
-    let third = argument(text, count, 2, third_at);
-    let Number::Is(c, fourth_at) = third else {
-        return refused(third);
-    };
-    let fourth = argument(text, count, 3, fourth_at);
-    let Number::Is(d, next) = fourth else {
-        return refused(fourth);
-    };
-    closed(
-        text,
-        Call {
-            code,
-            a,
-            b,
-            c,
-            d,
-            next,
-        },
-    )
-}
-
-// The argument with `earlier` others in front of it, of `count` in all, from the end of those on. One that the call lacks is 0 and no text.
-fn argument(text: &[u8], count: u8, earlier: u8, at: usize) -> Number
-    ensures { result ≡ argument text.now count earlier at }
-{
-    if count <= earlier {
-        return Number::Is(0, at);
-    }
-    if earlier == 0 {
-        return number_at(text, at);
-    }
-    if !stands(text, at, b',') {
-        return Number::Not(at);
-    }
-    number_at(text, at + 1)
-}
-
-// What is no number is no call. It is asked of nothing else: the second arm only completes the match.
-fn refused(n: Number) -> Written
-    ensures { result ≡ refused n }
-{
-    match n {
-        Number::Not(wrong) => Written::Bad(wrong),
-        Number::Is(_, _) => Written::End,
-    }
-}
-
-// The call whose arguments have been read, where it is closed at `call.next`.
-fn closed(text: &[u8], call: Call) -> Written
-    ensures { result ≡ closed text.now call }
-{
-    let at = call.next;
-    if !stands(text, at, b')') {
-        return Written::Bad(at);
-    }
-    let next = at + 1;
-    if !ends(text, next) {
-        return Written::Bad(next);
-    }
-    Written::Call(Call {
-        code: call.code,
-        a: call.a,
-        b: call.b,
-        c: call.c,
-        d: call.d,
+    let (a, at) = argument(text, count, 0, at)?;
+    let (b, at) = argument(text, count, 1, at)?;
+    let (c, at) = argument(text, count, 2, at)?;
+    let (d, at) = argument(text, count, 3, at)?;
+    let next = closed(text, at)?;
+    Ok(Call {
+        code,
+        numbers: [a, b, c, d],
         next,
     })
 }
 
-// A byte stands at a place.
-fn stands(text: &[u8], at: usize, b: u8) -> bool
-    ensures { result ≡ stands text.now at b }
+// The argument with `earlier` others in front of it, of `count` in all, from the end of those on, and the place after it. One that the call lacks is 0 and no text.
+#[tactic(auto, unfolding(crate::specs::Notation::argument))]
+fn argument(text: &[u8], count: u8, earlier: u8, at: usize) -> Result<(u32, usize), Fault>
+    ensures { result ≡ argument text.now count earlier at }
 {
-    if text.len() <= at {
-        return false;
+    if count <= earlier {
+        return Ok((0, at));
     }
-    text[at] == b
+    if earlier == 0 {
+        return number_at(text, at);
+    }
+    let first = after_byte(text, at, b',')?;
+    number_at(text, first)
+}
+
+// The place after the call that is closed at a place.
+#[tactic(auto, unfolding(crate::specs::Notation::closed))]
+fn closed(text: &[u8], at: usize) -> Result<usize, Fault>
+    ensures { result ≡ closed text.now at }
+{
+    let next = after_byte(text, at, b')')?;
+    if !ends(text, next) {
+        return Err(Fault { place: next });
+    }
+    Ok(next)
+}
+
+// The place after a byte that has to stand at a place.
+#[tactic(auto, unfolding(crate::specs::Notation::after_byte, crate::specs::Notation::stands))]
+fn after_byte(text: &[u8], at: usize, b: u8) -> Result<usize, Fault>
+    ensures { result ≡ after_byte text.now at b }
+{
+    match text.get(at) {
+        Some(&found) if found == b => Ok(at + 1),
+        _ => Err(Fault { place: at }),
+    }
 }
 
 // A call may end before a place: a blank stands there, or nothing.
+#[tactic(auto, unfolding(crate::specs::Notation::ends))]
 fn ends(text: &[u8], at: usize) -> bool
     ensures { result ≡ ends text.now at }
 {
-    if text.len() <= at {
-        return true;
-    }
-    is_blank(text[at])
+    text.get(at).is_none_or(|b| is_blank(*b))
 }
 
-// The number whose digits begin at a place.
-fn number_at(text: &[u8], at: usize) -> Number
+// The number whose digits begin at a place, and the place after it.
+#[tactic(auto, unfolding(crate::specs::Numbers::number_at))]
+fn number_at(text: &[u8], at: usize) -> Result<(u32, usize), Fault>
     ensures { result ≡ number_at text.now at }
 {
-    let digits = digits_at(text, at);
-    let next = digits.next;
-    let value = digits.value;
-    if next == at {
-        return Number::Not(at);
+    let rest = rest_at(text, at);
+    let count = digit_count(rest);
+    if count == 0 {
+        return Err(Fault { place: at });
     }
-    if ABOVE <= value {
-        return Number::Not(at);
-    }
-    Number::Is(value as u32, next)
+    let number = u32::try_from(value(&rest[..count])).map_err(|_| Fault { place: at })?;
+    Ok((number, at + count))
 }
 
-fn digits_at(text: &[u8], at: usize) -> Digits
-    ensures { result ≡ digits_from text.now 0 at }
+// How many digits a text begins with.
+fn digit_count(text: &[u8]) -> usize
+    ensures count { result ≡ prefix_len is_digit text.now }
+    ensures within { result ≤ length text.now }
 {
-    let mut value = 0;
-    let mut i = at;
-    while i < text.len() {
-        let b = text[i];
-        if !is_digit(b) {
-            return Digits { value, next: i };
-        }
-        value = with_digit(value, b);
-        i += 1;
-    }
-    Digits { value, next: i }
+    text.iter().take_while(|b| b.is_ascii_digit()).count()
 }
 
-fn is_digit(b: u8) -> bool
-    ensures { result ≡ is_digit b }
+// The value of some digits, or the greatest number of 64 bits where that is less.
+fn value(digits: &[u8]) -> u64
+    ensures { result ≡ min (value digits.now) 18446744073709551615 }
 {
-    if b < b'0' {
-        return false;
-    }
-    b <= b'9'
-}
-
-// A value with one more digit behind it, or `ABOVE` where that is less.
-fn with_digit(value: u64, digit: u8) -> u64
-    requires { (value ≤ 4294967296) × (48 ≤ digit) }
-    ensures { result ≡ min (10 * value + (digit - 48)) 4294967296 }
-{
-    let more = 10 * value + (digit - b'0') as u64;
-    if more < ABOVE { more } else { ABOVE }
+    digits.iter().fold(
+        0u64,
+        |n, b| n
+            .saturating_mul(10)
+            .saturating_add(u64::from(b.saturating_sub(b'0'))),
+    )
 }

@@ -2,64 +2,29 @@
 #![tactic(auto)]
 
 ghost use Rattle.std.specs.Prelude.{◌≡◌};
-ghost use Rattle.texts.specs.Buffer.{placed, place_after};
-ghost use Rattle.record_bytes.specs.Records.{low_first, record_bytes};
+ghost use Rattle.texts.specs.Buffer.{placed, end_of};
+ghost use Rattle.record_bytes.specs.Records.{record_bytes};
 
 use texts::{FIRST_MARK, RECORD_LENGTH, SECOND_MARK};
 
-// The record at a place of the buffer. Hands back the place after it; where it does not fit nothing is written, and it hands back `at`.
-pub fn write_record(buffer: &mut [u8], at: usize, code: u8, a: u32, b: u32, c: u32, d: u32) -> usize
-    ensures { (buffer.new ≡ placed at (record_bytes code a b c d) buffer.old) × (result ≡ place_after at (record_bytes code a b c d) buffer.old) }
+// The record at a place of the buffer, and the place after it. Where it does not fit there is none, and the buffer stays as it was.
+pub fn write_record(buffer: &mut [u8], at: usize, code: u8, numbers: [u32; 4]) -> Option<usize>
+    ensures { (buffer.new ≡ placed at (record_bytes code numbers) buffer.old) × (result ≡ end_of at (record_bytes code numbers) buffer.old) }
 {
-    if buffer.len() < RECORD_LENGTH {
-        return at;
-    }
-    if buffer.len() - RECORD_LENGTH < at {
-        return at;
-    }
-    let end = at + RECORD_LENGTH;
-    let made = bytes_of(code, a, b, c, d);
-    buffer[at..end].copy_from_slice(&made);
-    end
+    texts::put(buffer, at, &bytes_of(code, numbers))
 }
 
-fn bytes_of(code: u8, a: u32, b: u32, c: u32, d: u32) -> [u8; 19]
-    ensures { result ≡ record_bytes code a b c d }
+fn bytes_of(code: u8, numbers: [u32; 4]) -> [u8; RECORD_LENGTH]
+    ensures { result ≡ record_bytes code numbers }
 {
-    let a = low_first(a);
-    let b = low_first(b);
-    let c = low_first(c);
-    let d = low_first(d);
-    [
-        FIRST_MARK,
-        SECOND_MARK,
-        code,
-        a[0],
-        a[1],
-        a[2],
-        a[3],
-        b[0],
-        b[1],
-        b[2],
-        b[3],
-        c[0],
-        c[1],
-        c[2],
-        c[3],
-        d[0],
-        d[1],
-        d[2],
-        d[3],
-    ]
-}
-
-fn low_first(n: u32) -> [u8; 4]
-    ensures { result ≡ low_first n }
-{
-    [
-        (n % 256) as u8,
-        (n / 256 % 256) as u8,
-        (n / 65536 % 256) as u8,
-        (n / 16777216 % 256) as u8,
-    ]
+    let mut bytes = [0; RECORD_LENGTH];
+    bytes[0] = FIRST_MARK;
+    bytes[1] = SECOND_MARK;
+    bytes[2] = code;
+    // no plainer: over chunks zipped with the numbers the loop has a measure to prove, and says nothing of the place of a chunk
+    for (i, n) in numbers.iter().enumerate() {
+        let at = 3 + 4 * i;
+        bytes[at..at + 4].copy_from_slice(&n.to_le_bytes());
+    }
+    bytes
 }

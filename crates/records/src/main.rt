@@ -2,104 +2,78 @@
 // Where anything is wrong with the text, one line on standard error says what, and no record is written. The exit status is 0 then too.
 #![tactic(auto)]
 
-ghost use Rattle.std.specs.Prelude.{◌≤◌, length};
+ghost use Rattle.std.specs.Prelude.{◌≤◌, length, IfOk};
 
-use std::io;
+use std::fmt;
 use std::io::{ErrorKind, Print, Read};
 use std::rt::HostRuntime;
-use translation::Outcome;
+use translation::Refused;
 
-// How many bytes have been read, and whether that is all there is.
+// Why no record is written.
 #[derive(Clone, Copy)]
-struct Input {
-    length: usize,
-    whole: bool,
+enum Complaint {
+    TooLong,
+    NotRead,
+    Refused(Refused),
+    NotWritten,
+}
+
+impl From<Refused> for Complaint {
+    fn from(refused: Refused) -> Complaint {
+        Complaint::Refused(refused)
+    }
+}
+
+impl fmt::Display for Complaint {
+    fn fmt<W: fmt::Write>(&self, f: &mut fmt::Formatter<W>) -> fmt::Result {
+        match self {
+            Complaint::TooLong => write!(f, "text of more than {LONGEST} bytes"),
+            Complaint::NotRead => write!(f, "text cannot be read"),
+            Complaint::Refused(refused) => write!(f, "{refused}"),
+            Complaint::NotWritten => write!(f, "records cannot be written"),
+        }
+    }
 }
 
 const LONGEST: usize = 65536;
 
+// The bytes of 3,000 records.
+const MOST: usize = 57000;
+
 fn main(rt: HostRuntime) {
-    // a byte more than the longest text, so that a longer one shows
-    let mut text = [0u8; 65537];
-    let input = read_text(&rt, &mut text);
-    let length = input.length;
-    if LONGEST < length {
-        complain(&rt, b"text of more than 65536 bytes");
-        return;
+    if let Err(complaint) = run(&rt) {
+        let _ = eprintln!(rt; "{complaint}");
     }
-    if !input.whole {
-        complain(&rt, b"text cannot be read");
-        return;
-    }
-    write_records(&rt, &text[..length]);
 }
 
-// Reads until the text ends or the buffer is full. A proved loop has to end, so it counts its reads down from a number that no run uses up.
-fn read_text(rt: &HostRuntime, text: &mut [u8]) -> Input
-    ensures { result.length ≤ length text.new }
+fn run(rt: &HostRuntime) -> Result<(), Complaint> {
+    // a byte more than the longest text, so that a longer one shows
+    let mut text = [0u8; LONGEST + 1];
+    let length = read_text(rt, &mut text)?;
+    let mut records = [0u8; MOST];
+    let end = translation::translate(&text[..length], &mut records)?;
+    rt.stdout()
+        .write_all(&records[..end])
+        .map_err(|_| Complaint::NotWritten)
+}
+
+// Reads until the text ends; it is too long where it fills the buffer, and refused where a read fails, so this is not the bench's loop. A proved loop has to end, so it counts its reads up to a number that no run comes to.
+fn read_text(rt: &HostRuntime, text: &mut [u8]) -> Result<usize, Complaint>
+    ensures { IfOk result (λ filled. filled ≤ length text.new) }
 {
     let mut stdin = rt.stdin();
     let mut filled = 0;
-    let mut reads = u64::MAX;
-    while reads > 0 {
-        if filled == text.len() {
-            return Input {
-                length: filled,
-                whole: true,
-            };
-        }
+    for _ in 0..u64::MAX {
         match stdin.read(&mut text[filled..]) {
-            Ok(0) => {
-                return Input {
-                    length: filled,
-                    whole: true,
-                };
-            }
+            Ok(0) => return Ok(filled),
             Ok(got) => filled += got,
-            Err(e) => {
-                if failed(&e) {
-                    return Input {
-                        length: filled,
-                        whole: false,
-                    };
-                }
-            }
+            // a signal came before any byte: the read is tried again
+            Err(e) if e.kind() == ErrorKind::Interrupted => {}
+            Err(_) => return Err(Complaint::NotRead),
         }
-        reads -= 1;
-    }
-    Input {
-        length: filled,
-        whole: false,
-    }
-}
-
-// Whether a read failed for good: one that a signal interrupted before any byte came is tried again.
-fn failed(e: &io::Error) -> bool {
-    e.kind() != ErrorKind::Interrupted
-}
-
-fn write_records(rt: &HostRuntime, text: &[u8]) {
-    let mut records = [0u8; 57000];
-    match translation::translate(text, &mut records) {
-        Outcome::Records(length) => write_first(rt, &records, length),
-        Outcome::TooMany => complain(rt, b"too many calls"),
-        Outcome::Wrong(place) => complain_at(rt, place),
-    }
-}
-
-fn write_first(rt: &HostRuntime, records: &[u8], length: usize) {
-    if length <= records.len() {
-        if rt.stdout().write_all(&records[..length]).is_err() {
-            complain(rt, b"records cannot be written");
+        if filled == text.len() {
+            return Err(Complaint::TooLong);
         }
     }
-}
-
-fn complain(rt: &HostRuntime, what: &[u8]) {
-    let _ = rt.stderr().write_all(what);
-    let _ = rt.stderr().write_all(b"\n");
-}
-
-fn complain_at(rt: &HostRuntime, place: usize) {
-    let _ = eprintln!(rt; "bad text at byte {place}");
+    Err(Complaint::NotRead)
 }

@@ -16,13 +16,13 @@ use Rattle.translation.specs.Lines.{Spelling, Known, AllKnown, lines, record_for
 
 -- what is written of a code and four numbers of 32 bits is read as that code and those numbers
 pub record_read : (code a b c d : ℕ) (rest : List ℕ) → a < 4294967296 → b < 4294967296 → c < 4294967296 → d < 4294967296
-    → record_at (record_bytes code a b c d ++ rest) 0 ≡ entry code a b c d
+    → record_at (record_bytes code (a ∷ b ∷ c ∷ d ∷ []) ++ rest) 0 ≡ entry code a b c d
 unfolding record_at whole_record number_at record_bytes
 record_read code a b c d rest ha hb hc hd = rw (number_back a ha, number_back b hb, number_back c hc, number_back d hd)
 
 -- and where the code is a call's, and the numbers that it lacks are 0, it is that call
 pub call_read : (code a b c d : ℕ) (rest : List ℕ) → a < 4294967296 → b < 4294967296 → c < 4294967296 → d < 4294967296
-    → code ≤ 15 → zero_after (get_or counts code 0) a b c d ≡ true → record_at (record_bytes code a b c d ++ rest) 0 ≡ call (get_or (calls a b c d) code root)
+    → code ≤ 15 → zero_after (get_or counts code 0) a b c d ≡ true → record_at (record_bytes code (a ∷ b ∷ c ∷ d ∷ []) ++ rest) 0 ≡ call (get_or (calls a b c d) code root)
 unfolding entry
 call_read code a b c d rest ha hb hc hd h z = record_read code a b c d rest ha hb hc hd ∙ rw (le-leb code 15 h, z)
 
@@ -57,7 +57,7 @@ records_read : (before after : List Spelling) (s : Spelling) (rest : List ℕ) �
 records_read [] after s rest k = rw (append_assoc (record_for s) (records after) rest) (known_read s (records after ++ rest) k.0)
 records_read (x ∷ before) after s rest k =
     let more = records (before ++ (s ∷ after)) in
-    let n : 19 * suc (length before) ≡ length (record_for x) + 19 * length before = omega (arith, record_length_lem x.code (get_or x.args 0 0) (get_or x.args 1 0) (get_or x.args 2 0) (get_or x.args 3 0)) in
+    let n : 19 * suc (length before) ≡ length (record_for x) + 19 * length before = omega (arith, record_length_lem x.code (get_or x.args 0 0 ∷ get_or x.args 1 0 ∷ get_or x.args 2 0 ∷ get_or x.args 3 0 ∷ []) refl) in
     rw (append_assoc (record_for x) more rest, n) (behind (record_for x) (more ++ rest) (19 * length before) ∙ records_read before after s rest k.1)
 
 -- calls one to a line, as many as there is room for, come to records from which each is read, 19 bytes behind the one before

@@ -1,9 +1,9 @@
 -- The part of a lent area that the run question gives, by the areas alone. Assumes nothing.
-use Rattle.std.specs.Prelude.{true, false, List, ◌≡◌, ℕ, ◌+◌, ◌-◌, ◌≤◌, min, leb, eqb, length, take, drop, if◌then◌else◌}
-use Rattle.std.proofs.Common.{inl, inr, sym, ◌∙◌, arith, length-drop, take_all}
+use Rattle.std.specs.Prelude.{true, false, ◌≡◌, ℕ, ◌-◌, ◌≤◌, eqb, length, if◌then◌else◌}
+use Rattle.std.proofs.Common.{arith}
 use Rattle.std.proofs.Math.Path.{refl}
-use borrow.Author.Tests.{leb-true, leb-false, ne_eqb}
-use Rattle.lists.specs.Tests.{tested, reflect}
+use borrow.Author.Tests.{ne_eqb}
+use Rattle.lists.specs.Tests.{reflect}
 use Rattle.names.specs.declared.lines.Area.{Area}
 use Rattle.meaning.specs.Model.{Bytes, ◌holds◌}
 use Rattle.meaning.specs.Reading.{run_of}
@@ -48,16 +48,3 @@ module _ (first second : Area) (stores stacks : Bytes) (a n : ℕ) where
         let f = simp reflect at (given_none _ refl given) in
         let g = (holds_iff (run_of second) a).0 (f.1.0 (rw h)).0 in
         (g.0, omega (arith, g.1, f.0.1))
-
--- a part that would pass the end of a list ends there
-pub clipped : {A : Type 0} (l : List A) (from n : ℕ) → from ≤ length l → take (min (length l) (from + n) - from) (drop from l) ≡ take n (drop from l)
-clipped l from n h = elim (tested (leb (from + n) (length l))) [
-  | inl e ↦
-      let k = leb-true (from + n) (length l) e in
-      let q : min (length l) (from + n) - from ≡ n = omega arith in
-      rw q
-  | inr e ↦
-      let k = leb-false (from + n) (length l) e in
-      let d = length-drop from l in
-      take_all (min (length l) (from + n) - from) (drop from l) (omega arith) ∙ sym (take_all n (drop from l) (omega arith))
-]

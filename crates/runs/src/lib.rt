@@ -2,7 +2,7 @@
 // of the stacks. Soundness is the table's to ask, before.
 #![tactic(auto)]
 
-ghost use Rattle.std.specs.Prelude.{◌≡◌, ◌+◌, ◌≤◌, min};
+ghost use Rattle.std.specs.Prelude.{◌≡◌, ◌+◌, ◌≤◌, length, take, drop};
 ghost use Rattle.meaning.specs.Reading.{run_of};
 ghost use Rattle.meaning.specs.Reports.{first_report};
 ghost use Rattle.meaning.specs.RunQuestion.{wholly_in, area_checks, lent_of, part_bytes};
@@ -15,10 +15,7 @@ use names::{Area, Report};
 fn wholly_in(area: Area, address: u32, n: u32) -> bool
     ensures { result ≡ wholly_in (run_of area) address n }
 {
-    if !areas::holds(area, address) {
-        return false;
-    }
-    (address as u64) + (n as u64) <= areas::end(area)
+    areas::holds(area, address) && u64::from(address) + u64::from(n) <= areas::end(area)
 }
 
 // The report, by the checks in their order.
@@ -39,25 +36,21 @@ pub fn report(
     if stacks.len() != second.length as usize {
         return Report::BadArea;
     }
-    if wholly_in(first, address, n) {
-        return Report::Accepted;
-    }
-    if wholly_in(second, address, n) {
+    if wholly_in(first, address, n) || wholly_in(second, address, n) {
         return Report::Accepted;
     }
     Report::UnknownAddress
 }
 
-// Where a run of n bytes from an offset ends, or the area's end where that comes first.
-fn stop(length: usize, from: usize, n: u32) -> usize
-    requires { from ≤ length }
-    ensures { result ≡ min length (from + n) }
+// n bytes of an area from an offset on, or those up to its end where that comes first.
+fn clipped<'a>(area: &'a [u8], from: usize, n: u32) -> &'a [u8]
+    requires { from ≤ length area.now }
+    ensures bytes { result.now ≡ take n (drop from area.now) }
+    ensures memory { result.ref_ptr.0 ≡ area.entry.ref_ptr.0 }
+    ensures place { result.ref_ptr.1 ≡ area.entry.ref_ptr.1 + from }
 {
-    let room = (length - from) as u64;
-    if (n as u64) < room {
-        return from + (n as usize);
-    }
-    length
+    let rest = &area[from..];
+    &rest[..rest.len().min(n as usize)]
 }
 
 // The run itself, as a part of the area that holds its first address; an empty part where the report refuses it.
@@ -73,14 +66,11 @@ pub fn run<'a>(
     ensures memory { result.ref_ptr.0 ≡ lent_of (part first second stores.now stacks.now address n).area stores.entry.ref_ptr.0 stacks.entry.ref_ptr.0 }
     ensures place { result.ref_ptr.1 ≡ lent_of (part first second stores.now stacks.now address n).area stores.entry.ref_ptr.1 stacks.entry.ref_ptr.1 + (part first second stores.now stacks.now address n).offset }
 {
-    let given = report(first, second, stores, stacks, address, n);
-    if given.number() != 0 {
+    if report(first, second, stores, stacks, address, n).number() != 0 {
         return &stores[0..0];
     }
     if areas::holds(first, address) {
-        let from = (address - first.start) as usize;
-        return &stores[from..stop(stores.len(), from, n)];
+        return clipped(stores, (address - first.start) as usize, n);
     }
-    let from = (address - second.start) as usize;
-    &stacks[from..stop(stacks.len(), from, n)]
+    clipped(stacks, (address - second.start) as usize, n)
 }

@@ -1,10 +1,11 @@
 -- What the calls on stacks give: document 01's rows of calls 12 and 13, on a model of the stack area, the stacks and the free run alone. Assumes nothing.
-use Rattle.std.specs.Prelude.{Bool, ◌&&◌, [], eqb, if◌then◌else◌}
+use Rattle.std.specs.Prelude.{Bool, ◌&&◌, Result, Ok, Err, [], eqb, if◌then◌else◌}
 use Rattle.meaning.specs.Model.{Run}
 use Rattle.meaning.specs.Calls.{Call, Outcome, row}
 use Rattle.meaning.specs.Parts.{stacks_alone, told_by}
 use Rattle.meaning.specs.Reading.{run_of, area_of, fits32}
 use Rattle.names.specs.declared.lines.Area.{Area}
+use Rattle.names.specs.declared.report.Report.{Report}
 use Rattle.names.specs.Numbers.{Told, told_of}
 use Rattle.stacks.specs.declared.Stacks.{Stacks}
 use Rattle.stacks.specs.Stacks.{reading, written}
@@ -16,8 +17,10 @@ pub record Seen : Type 0 where
   pub free : Area
   pub told : Told
 
-abbrev pub seen : Piled → Seen
-seen p = record { stacks = p.stacks; free = p.free; told = told_of p.reply }
+-- a call that was made on stacks and a free run: an accepted one hands back the new ones, a refused one leaves those that it was made on
+abbrev pub seen : Stacks → Area → Result Piled Report → Seen
+seen stacks free (Ok p) = record { stacks = p.stacks; free = p.free; told = told_of (Ok p.value) }
+seen stacks free (Err r) = record { stacks = stacks; free = free; told = told_of (Err r) }
 
 -- a refusal leaves both as they are
 abbrev pub kept : Stacks → Area → Told → Seen

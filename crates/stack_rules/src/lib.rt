@@ -1,101 +1,77 @@
 // Rules 6 and 7 of the stacks, each asked of the lines that are listed, on every value of the struct.
 #![tactic(auto)]
 
-ghost use Rattle.std.specs.Prelude.{◌≡◌, ◌+◌, ◌≤◌};
+ghost use Rattle.std.specs.Prelude.{◌≡◌, ◌+◌};
 ghost use Rattle.lists.specs.Lists.{sum};
-ghost use Rattle.lines.specs.Shape.{live};
 ghost use Rattle.meaning.specs.Rules.{stacks_fit, run_sound};
 ghost use Rattle.meaning.specs.Reading.{run_of};
-ghost use Rattle.stacks.specs.Stacks.{view, stack_line, reading};
+ghost use Rattle.stacks.specs.Stacks.{view, reading};
 ghost use Rattle.stack_rules.specs.Pass.{stack_end, fits_from, in_order, stack_bytes};
 
+use lines::Lines;
 use names::{Area, Stack};
 use stacks::Stacks;
 
-// Where a stack ends.
+// Where a stack ends: a sum by itself, as that of an area is. It widens by `as`, here and below, after which proofs name goals; `u64::from` says no more.
 fn stack_end(stack: Stack) -> u64
     ensures { result ≡ stack_end (view stack) }
 {
-    let id = stack.id;
-    (id.0 as u64) + (stack.total as u64)
+    (stack.id.0 as u64) + (stack.total as u64)
 }
 
 // What rule 6 asks of one stack, where the one before it ended at `last`.
 fn fits_from(stack: Stack, last: u64, area: Area, run: Area) -> bool
     ensures { result ≡ fits_from (run_of area) (run_of run) last (view stack) }
 {
-    let id = stack.id;
-    let total = stack.total;
-    if (id.0 as u64) < last {
-        return false;
-    }
-    if total < Stack::OVERHEAD {
-        return false;
-    }
-    let taken = Area::new(id.0, total);
-    if !areas::inside(taken, area) {
-        return false;
-    }
-    areas::apart(taken, run)
+    let taken = Area::new(stack.id.0, stack.total);
+    last <= (stack.id.0 as u64)
+        && Stack::OVERHEAD <= stack.total
+        && areas::inside(taken, area)
+        && areas::apart(taken, run)
 }
 
-// Each of the first n stacks fits from where the one before it ended.
-fn lines_fit(lines: [Stack; 32], n: usize, area: Area, run: Area) -> bool
-    requires { n ≤ 32 }
-    ensures { result ≡ in_order (run_of area) (run_of run) (live stack_line n lines) }
+// Each stack fits from where the one before it ended.
+fn in_order(stacks: &Stacks, area: Area, run: Area) -> bool
+    ensures { result ≡ in_order (run_of area) (run_of run) (reading stacks.now) }
 {
+    let lines = stacks.listed();
     let mut last: u64 = 0;
-    let mut i: usize = 0;
-    while i < n {
-        let k = lines[i];
-        if !fits_from(k, last, area, run) {
+    for k in lines {
+        if !fits_from(*k, last, area, run) {
             return false;
         }
-        last = stack_end(k);
-        i += 1;
+        last = stack_end(*k);
     }
     true
 }
 
-// A first number and the totals of the first n stacks, as a whole number.
-fn bytes_with(lines: [Stack; 32], n: usize, first: u32) -> u64
-    requires { n ≤ 32 }
-    ensures { result ≡ sum stack_bytes (live stack_line n lines) + first }
+// A first number and the totals of the stacks, as a whole number.
+fn bytes_with(stacks: &Stacks, first: u32) -> u64
+    ensures { result ≡ sum stack_bytes (reading stacks.now) + first }
 {
+    let lines = stacks.listed();
+    // tried: the sum as `.iter().map(..).sum()`, the proof that adding `first` to it stays in 64 bits did not close
     let mut bytes = first as u64;
-    let mut i: usize = 0;
-    while i < n {
-        let k = lines[i];
+    for k in lines {
         bytes += k.total as u64;
-        i += 1;
     }
     bytes
 }
 
 // Rule 6, in one pass.
-pub fn fit(stacks: Stacks, area: Area, free: Area) -> bool
-    ensures { result ≡ stacks_fit (run_of area) (run_of free) (reading stacks) }
+#[tactic(auto, using(crate::specs::Pass::in_order_rule))]
+pub fn fit(stacks: &Stacks, area: Area, free: Area) -> bool
+    ensures { result ≡ stacks_fit (run_of area) (run_of free) (reading stacks.now) }
 {
-    let lines = stacks.lines;
-    let n = stacks.len();
-    lines_fit(lines, n, area, free)
+    in_order(stacks, area, free)
 }
 
 // Rule 7.
-pub fn run_sound(stacks: Stacks, area: Area, free: Area) -> bool
-    ensures { result ≡ run_sound (run_of area) (run_of free) (reading stacks) }
+#[tactic(auto, unfolding(meaning::specs::Rules::run_sound))]
+pub fn run_sound(stacks: &Stacks, area: Area, free: Area) -> bool
+    ensures { result ≡ run_sound (run_of area) (run_of free) (reading stacks.now) }
 {
-    let lines = stacks.lines;
-    let n = stacks.len();
-    let left = free.length;
-    if !areas::inside(free, area) {
-        return false;
-    }
-    if bytes_with(lines, n, left) != (area.length as u64) {
-        return false;
-    }
-    if left != 0 {
-        return true;
-    }
-    (free.start as u64) == areas::end(area)
+    areas::inside(free, area)
+        && bytes_with(stacks, free.length) == (area.length as u64)
+        && (free.length != 0 || (free.start as u64) == areas::end(area))
 }

@@ -1,5 +1,5 @@
 -- The list of stacks: how its lines read, how a list is written, and when it is clean. Assumes nothing.
-use Rattle.std.specs.Prelude.{Bool, true, not, ◌&&◌, List, ◌≡◌, refl, ℕ, leb, ltb, eqb, length}
+use Rattle.std.specs.Prelude.{Bool, true, ◌&&◌, List, ◌≡◌, refl, ℕ, leb, eqb, length}
 use Rattle.std.proofs.Common.{leb-true, eqb-true}
 use Rattle.lists.specs.Tests.{and_iff}
 use Rattle.lines.specs.Shape.{Shape, live, pad, blank, live_pad, written_back}
@@ -44,16 +44,6 @@ written ks = record { count = length ks; lines = pad stack_line ks }
 unfoldable pub clean : Stacks → Bool
 clean s = leb s.count 32 && blank stack_line s.count s.lines
 
--- the stack has the identifier k, another, or a higher one
-abbrev pub is_stack : ℕ → Stack → Bool
-is_stack k x = eqb x.start k
-
-abbrev pub is_other : ℕ → Stack → Bool
-is_other k x = not (eqb x.start k)
-
-abbrev pub is_above : ℕ → Stack → Bool
-is_above k x = ltb k x.start
-
 -- a count and lines are a written list where they are that list's
 pub made : (n : ℕ) (ls : List Line) (ks : List Stack) → n ≡ length ks → ls ≡ pad stack_line ks → ◌≡◌ {A = Stacks} (record { count = n; lines = ls }) (written ks)
 unfolding written
@@ -71,3 +61,13 @@ written_reading s e h =
     let b = (and_iff (leb s.count 32) _).0 h in
     let w = written_back stack_line s.count s.lines e (leb-true s.count 32 b.0) b.1 in
     λ i. record { count = w.0 i; lines = w.1 i }
+
+-- ---- the definitions, as every list of lines has them
+
+pub reading_is : (s : Stacks) → reading s ≡ live stack_line s.count s.lines
+unfolding reading
+reading_is s = refl
+
+pub clean_is : (s : Stacks) → clean s ≡ (leb s.count 32 && blank stack_line s.count s.lines)
+unfolding clean
+clean_is s = refl

@@ -1,9 +1,12 @@
 -- The calls that take or give back room, by their rows of document 01's table, on the lists that they look at. Assumes nothing.
-use Rattle.std.specs.Prelude.{Bool, ◌&&◌, [], ◌≡◌, ℕ, ◌+◌, ◌-◌, eqb, if◌then◌else◌}
+use Rattle.std.specs.Prelude.{Bool, ◌&&◌, Result, Ok, Err, List, [], ◌≡◌, ◌≢◌, ℕ, ◌+◌, ◌-◌, length, eqb, if◌then◌else◌}
 use borrow.Author.Tests.{ne_eqb}
-use Rattle.names.specs.Numbers.{Told, told_of}
+use Rattle.names.specs.declared.report.Report.{Report}
+use Rattle.names.specs.Numbers.{Told, told_of, number_of}
 use Rattle.names.specs.Overhead.{store_taken}
-use Rattle.meaning.specs.Model.{Model, store_of}
+use lib.ListN.{length-map}
+use Rattle.meaning.specs.Model.{Store, Model, store_of}
+use Rattle.meaning.specs.Changes.{with_used}
 use Rattle.meaning.specs.Reports.{first_report, parent_store}
 use Rattle.meaning.specs.Calls.{Call, Outcome, start, root, context_of, set_context, total_of, used_of, free_of, find, allocate, make_store, clear, resize, make_stack, destroy_stack, add_thread, remove_thread, checks, change, row}
 use Rattle.meaning.specs.Parts.{stores_alone, told_by}
@@ -19,8 +22,15 @@ pub record Seen : Type 0 where
   pub stores : Stores
   pub told : Told
 
-abbrev pub seen : Roomed → Seen
-seen r = record { stores = r.stores; told = told_of r.reply }
+-- a call that was made on a list: an accepted one hands back the new list, a refused one leaves the list that it was made on
+abbrev pub seen : Stores → Result Roomed Report → Seen
+seen old (Ok r) = record { stores = r.stores; told = told_of (Ok r.value) }
+seen old (Err r) = record { stores = old; told = told_of (Err r) }
+
+-- checks that give this report: no error where it is 0, else the error of its number
+abbrev pub Refuses : ℕ → Result (Unit {0}) Report → Type 0
+Refuses k (Ok u) = k ≡ 0
+Refuses k (Err r) = (number_of r ≡ k) × (k ≢ 0)
 
 -- the used of a resized store's parent
 abbrev pub resized_used : Model → ℕ → ℕ → ℕ
@@ -65,6 +75,10 @@ unfoldable pub resized : Stores → ℕ → ℕ → Seen
 resized stores s n =
     let m = stores_alone (stores_of stores) [] in
     settled stores (all_fit m (resize s n) s) (change m [] (resize s n))
+
+-- call 9 takes its room before the new store is put in: there are as many stores as before
+pub grown_length : (ss : List Store) (s used : ℕ) → length (with_used s used ss) ≡ length ss
+grown_length ss s used = length-map ss _
 
 -- ---- the two ways out of call 11, from the report that its checks give
 

@@ -1,4 +1,3 @@
-pub mod Starts
 pub mod Pass
 pub mod Steps
 pub mod Broken

@@ -1,11 +1,10 @@
 -- The list of stores: how its lines read, how a list is written, and when it is clean. Assumes nothing.
-use Rattle.std.specs.Prelude.{Bool, true, false, not, ◌&&◌, List, ◌≡◌, refl, ℕ, leb, ltb, eqb, length, if◌then◌else◌}
+use Rattle.std.specs.Prelude.{Bool, true, not, ◌&&◌, List, ◌≡◌, refl, ℕ, leb, eqb, length}
 use Rattle.std.proofs.Common.{leb-true, eqb-true}
 use Rattle.lists.specs.Tests.{and_iff}
 use Rattle.lines.specs.Shape.{Shape, live, pad, blank, live_pad, written_back}
 use Rattle.meaning.specs.Model.{Store}
 use Rattle.meaning.specs.Nesting.{nested}
-use Rattle.meaning.specs.Changes.{line_with_used, line_with_total}
 use Rattle.names.specs.declared.lines.Store.{Store as Line}
 use Rattle.stores.specs.declared.Stores.{Stores}
 
@@ -53,12 +52,9 @@ written ss = record { count = length ss; lines = pad store_line ss }
 unfoldable pub clean : Stores → Bool
 clean s = leb s.count 64 && blank store_line s.count s.lines
 
--- the store has the identifier k, or a higher one
+-- the store has the identifier k
 abbrev pub is_store : ℕ → Store → Bool
 is_store k s = eqb s.start k
-
-abbrev pub is_above : ℕ → Store → Bool
-is_above k s = ltb k s.start
 
 -- the store is not nested in c
 abbrev pub is_outside : List Store → ℕ → Store → Bool
@@ -67,15 +63,6 @@ is_outside ss c s = not (nested ss s.start c)
 -- the store is a child of `parent`, and another one than s: what report 8 asks of the stores but the first
 abbrev pub is_other_child : ℕ → ℕ → Store → Bool
 is_other_child parent s c = eqb c.parent parent && not (eqb c.start s)
-
--- a store with another total, or another used, where it is the store c
-abbrev pub line_with : Bool → ℕ → ℕ → Store → Store
-line_with total c x s = if total then line_with_total c x s else line_with_used c x s
-
--- it leaves any other store
-pub line_other : (total : Bool) (c x : ℕ) (s : Line) → eqb s.id.0 c ≡ false → s ≡ back (line_with total c x (view s))
-line_other true c x s e = rw e
-line_other false c x s e = rw e
 
 -- a count and lines are a written list where they are that list's
 pub made : (n : ℕ) (ls : List Line) (ss : List Store) → n ≡ length ss → ls ≡ pad store_line ss → ◌≡◌ {A = Stores} (record { count = n; lines = ls }) (written ss)
@@ -94,3 +81,13 @@ written_reading s e h =
     let b = (and_iff (leb s.count 64) _).0 h in
     let w = written_back store_line s.count s.lines e (leb-true s.count 64 b.0) b.1 in
     λ i. record { count = w.0 i; lines = w.1 i }
+
+-- ---- the definitions, as every list of lines has them
+
+pub reading_is : (s : Stores) → reading s ≡ live store_line s.count s.lines
+unfolding reading
+reading_is s = refl
+
+pub clean_is : (s : Stores) → clean s ≡ (leb s.count 64 && blank store_line s.count s.lines)
+unfolding clean
+clean_is s = refl

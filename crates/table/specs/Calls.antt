@@ -65,5 +65,9 @@ pub record SeenFound : Type 0 where
 abbrev pub seen_found : Found → SeenFound
 seen_found f = record { table = f.table; report = number_of f.report; value = f.value; steps = f.steps }
 
+-- an answer of find without its steps
+abbrev pub told_of_found : SeenFound → Seen
+told_of_found f = record { table = f.table; report = f.report; value = f.value }
+
 abbrev pub found_answer : Called → SeenFound
 found_answer o = record { table = o.table; report = o.report; value = o.value; steps = o.steps }

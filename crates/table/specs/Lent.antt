@@ -1,7 +1,7 @@
 -- What is lent to the table. Call 8: the room taken on the lists and the block zeroed in the lent area are the call's answer and its bytes. The run
 -- question: on a sound table it is asked of the areas alone. Assumes nothing.
-use Rattle.std.specs.Prelude.{Bool, true, List, [], ◌≡◌, ℕ, ◌+◌, ◌-◌, eqb, length, if◌then◌else◌}
-use Rattle.std.proofs.Common.{inl, inr, ◌∙◌, arith}
+use Rattle.std.specs.Prelude.{Bool, true, false, List, [], ◌≡◌, ℕ, ◌+◌, ◌-◌, eqb, length, if◌then◌else◌}
+use Rattle.std.proofs.Common.{inl, inr, sym, ◌∙◌, ap, arith}
 use borrow.Author.Tests.{eqb-true, eq-eqb, ne_eqb}
 use Rattle.lists.specs.Tests.{tested}
 use Rattle.names.specs.Overhead.{allocation_overhead, block_taken}
@@ -10,14 +10,14 @@ use Rattle.meaning.specs.Changes.{zeroed}
 use Rattle.meaning.specs.Reports.{Check, first_report, context_store}
 use Rattle.meaning.specs.Reading.{run_of}
 use Rattle.meaning.specs.RunQuestion.{area_checks, run_report, run_part}
-use Rattle.meaning.specs.Calls.{allocate, accepted, decide, checks, change, row}
+use Rattle.meaning.specs.Calls.{Call, code, allocate, accepted, decide, checks, change, row}
 use Rattle.stores.specs.declared.Stores.{Stores}
 use Rattle.store_calls.specs.StoreCalls as store_calls
 use Rattle.table.specs.declared.Table.{Table}
 use Rattle.table.specs.Table.{reading, sound_table, Sized}
 use Rattle.runs.specs.Runs.{part}
 use Rattle.table.specs.Calls.{called, answer, run_number, table_run}
-use Rattle.table.specs.Ways.{with_stores_of, model_sound, called_sound, stores_way}
+use Rattle.table.specs.Ways.{called_unsound, with_stores_of, model_sound, called_sound, stores_way}
 use Rattle.table.specs.EachCall.{is_sound}
 use Rattle.table.specs.Fits32.{allocate_fits}
 
@@ -38,11 +38,21 @@ bytes_way ks stores m n a b block start k bs fit f =
       | inr e ↦ rw (e, e, e)
     ]
 
+-- an unsound table leaves the bytes
+pub unsound_bytes : (t : Table) (bs : Bytes) (c : Call) → eqb (code c) 0 ≡ false → sound_table t ≡ false → bs ≡ (called t bs c).bytes
+unsound_bytes t bs c n e = ap (λ o. o.bytes) (sym (called_unsound t bs c n e))
+
 module _ (t : Table) (n : Sized t) (h : sound_table t ≡ true) (bs : Bytes) (x k : ℕ) where
   -- an area of another length is refused
   pub other_length : (length bs ≡ t.areas.stores.length → ⊥) → called t bs (allocate x k) ≡ record { table = t; report = 15; value = 0; steps = 0; bytes = bs }
   unfolding row checks change reading first_report
   other_length e = called_sound t n h bs (allocate x k) ∙ rw (ne_eqb (length bs) t.areas.stores.length e)
+
+  pub length_answer : (length bs ≡ t.areas.stores.length → ⊥) → record { table = t; report = 15; value = 0 } ≡ answer (called t bs (allocate x k))
+  length_answer e = ap answer (sym (other_length e))
+
+  pub length_bytes : (length bs ≡ t.areas.stores.length → ⊥) → bs ≡ (called t bs (allocate x k)).bytes
+  length_bytes e = ap (λ o. o.bytes) (sym (other_length e))
 
   module _ (e : length bs ≡ t.areas.stores.length) where
     abbrev room : store_calls.Seen
@@ -65,7 +75,21 @@ module _ (t : Table) (n : Sized t) (h : sound_table t ≡ true) (bs : Bytes) (x 
         rw (called_sound t n h bs (allocate x k), q)
         (bytes_way _ t.stores _ _ (reading t) _ _ _ k bs (store_calls.all_fit (reading t) (allocate x k)) (rw q at fits))
 
+    -- the bytes by what the call on the lists tells: an accepted one zeroes its block, a refused one leaves them
+    pub block_accepted : (ss : Stores) (v : ℕ) → record { stores = ss; told = record { report = 0; value = v } } ≡ room
+        → zeroed (v - allocation_overhead - t.areas.stores.start) (block_taken k) bs ≡ (called t bs (allocate x k)).bytes
+    block_accepted ss v r = ap (λ p. block_zeroed t p k bs) r ∙ allocate_bytes
+
+    pub block_refused : (ss : Stores) (r : ℕ) → record { stores = ss; told = record { report = r; value = 0 } } ≡ room → (r ≡ 0 → ⊥) → bs ≡ (called t bs (allocate x k)).bytes
+    block_refused ss r q f =
+        let kept : bs ≡ block_zeroed t (record { stores = ss; told = record { report = r; value = 0 } }) k bs = rw (ne_eqb r 0 f) in
+        kept ∙ ap (λ p. block_zeroed t p k bs) q ∙ allocate_bytes
+
 -- ---- the run question
+
+pub report_unsound : (t : Table) (stores stacks : Bytes) (a k : ℕ) → sound_table t ≡ false → 16 ≡ run_number t stores stacks a k
+unfolding run_number
+report_unsound t stores stacks a k e = rw e
 
 module _ (t : Table) (n : Sized t) (h : sound_table t ≡ true) (stores stacks : Bytes) (a k : ℕ) where
   pub report_sound : run_number t stores stacks a k ≡ first_report (area_checks (run_of t.areas.stores) (run_of t.areas.stacks) stores stacks a k)

@@ -1,8 +1,8 @@
 -- From the calls on the lists to the calls on the table: on a sound table, what a call on some lists gives, put back into the table, is the call's answer.
 -- Assumes nothing.
-use Rattle.std.specs.Prelude.{Bool, true, false, ◌&&◌, List, [], ◌≡◌, ℕ, eqb, if◌then◌else◌}
+use Rattle.std.specs.Prelude.{Bool, true, false, ◌&&◌, List, [], ◌≡◌, ℕ, length, eqb, if◌then◌else◌}
 use Rattle.std.proofs.Math.Logic.{inl, inr}
-use Rattle.std.proofs.Common.{eqb-true}
+use Rattle.std.proofs.Common.{sym, ap, eqb-true}
 use Rattle.lists.specs.Tests.{tested, and_iff}
 use Rattle.meaning.specs.Model.{Store, Thread, Stack, Run, Model, Bytes}
 use Rattle.meaning.specs.Rules.{sound}
@@ -39,11 +39,29 @@ with_stores_of t ss r = record { table = record { areas = t.areas; free = t.free
 abbrev pub with_stacks_of : Table → Stacks → Area → Told → Seen
 with_stacks_of t ks free r = record { table = record { areas = t.areas; free = free; stores = t.stores; threads = t.threads; stacks = ks }; report = r.report; value = r.value }
 
+-- the same, of what the calls on a list give
+abbrev pub threads_put : Table → thread_calls.Seen → Seen
+threads_put t s = with_threads_of t s.threads s.told
+
+abbrev pub stores_put : Table → store_calls.Seen → Seen
+stores_put t s = with_stores_of t s.stores s.told
+
+abbrev pub stacks_put : Table → stack_calls.Seen → Seen
+stacks_put t s = with_stacks_of t s.stacks s.free s.told
+
 -- ---- an unsound table
 
 pub called_unsound : (t : Table) (bs : Bytes) (c : Call) → eqb (code c) 0 ≡ false → sound_table t ≡ false → called t bs c ≡ unsound t bs
 unfolding called
 called_unsound t bs c n e = rw (n, e)
+
+-- report 16 and the same table
+pub unsound_answer : (t : Table) (bs : Bytes) (c : Call) → eqb (code c) 0 ≡ false → sound_table t ≡ false → record { table = t; report = 16; value = 0 } ≡ answer (called t bs c)
+unsound_answer t bs c n e = ap answer (sym (called_unsound t bs c n e))
+
+-- every array of the code is as long as it is declared
+pub sized : (t : Table) → length t.stores.lines ≡ 64 → length t.threads.lines ≡ 32 → length t.stacks.lines ≡ 32 → Sized t
+sized t a b c = record { stores = a; threads = b; stacks = c }
 
 module _ (t : Table) (n : Sized t) (h : sound_table t ≡ true) where
   -- ---- a sound table

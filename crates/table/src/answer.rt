@@ -1,14 +1,17 @@
-// What a call hands back: the whole table, the report and the value.
+// What a call hands back: the whole table, the report and the value. Document 01 names this form, so the calls on the lists give a `Result`, and the table's methods this.
 ghost use Rattle.std.specs.Prelude.{◌≡◌};
 ghost use Rattle.names.specs.Numbers.{number_of, told_of};
-ghost use Rattle.table.specs.Calls.{seen};
-ghost use Rattle.table.specs.Ways.{reply_of, with_threads_of, with_stores_of, with_stacks_of};
+ghost use Rattle.thread_calls.specs.ThreadCalls.{seen as threads_seen};
+ghost use Rattle.store_calls.specs.StoreCalls.{seen as stores_seen};
+ghost use Rattle.stack_calls.specs.StackCalls.{seen as stacks_seen};
+ghost use Rattle.table.specs.Calls.{seen, seen_found, told_of_found};
+ghost use Rattle.table.specs.Ways.{reply_of, threads_put, stores_put, stacks_put};
 
 use crate::Table;
-use names::{Reply, Report};
+use names::Report;
 use stack_calls::Piled;
 use store_calls::Roomed;
-use thread_calls::Placed;
+use threads::Threads;
 
 #[derive(Clone, Copy)]
 pub struct Answer {
@@ -26,6 +29,30 @@ pub struct Found {
     pub steps: u32,
 }
 
+// What find hands back, without the steps.
+impl From<Found> for Answer {
+    ghost from_gives = { λ found a. seen a ≡ told_of_found (seen_found found) };
+
+    fn from(found: Found) -> Answer {
+        Answer {
+            table: found.table,
+            report: found.report,
+            value: found.value,
+        }
+    }
+}
+
+// An accepted call: the table after it, and its value.
+pub fn accepted(table: Table, value: u32) -> Answer
+    ensures { seen result ≡ record { table = table; report = 0; value = value } }
+{
+    Answer {
+        table,
+        report: Report::Accepted,
+        value,
+    }
+}
+
 // A refusal: the same table, and no value.
 pub fn refused(same: Table, report: Report) -> Answer
     ensures { seen result ≡ record { table = same; report = number_of report; value = 0 } }
@@ -38,42 +65,52 @@ pub fn refused(same: Table, report: Report) -> Answer
 }
 
 // A question's answer: the same table.
-pub fn told(same: Table, reply: Reply) -> Answer
-    ensures { seen result ≡ reply_of same (told_of reply) }
+pub fn told(same: Table, value: Result<u32, Report>) -> Answer
+    ensures { seen result ≡ reply_of same (told_of value) }
 {
-    let report = reply.report;
-    Answer {
-        table: same,
-        report,
-        value: reply.value,
+    match value {
+        Ok(value) => accepted(same, value),
+        Err(report) => refused(same, report),
     }
 }
 
-// The table with the threads that a call left.
-pub fn with_threads(mut table: Table, placed: Placed) -> Answer
-    ensures { seen result ≡ with_threads_of table placed.threads (told_of placed.reply) }
+// The table with the threads that a call left. Three such functions stay: one of any result would take a closure that puts it in its place, and the
+// closure's promise would be this clause.
+pub fn with_threads(mut table: Table, threads: Result<Threads, Report>) -> Answer
+    ensures { seen result ≡ threads_put table (threads_seen table.threads threads) }
 {
-    let threads = placed.threads;
-    table.threads = threads;
-    told(table, placed.reply)
+    match threads {
+        Ok(threads) => {
+            table.threads = threads;
+            accepted(table, 0)
+        }
+        Err(report) => refused(table, report),
+    }
 }
 
 // The table with the stores that a call left.
-pub fn with_stores(mut table: Table, roomed: Roomed) -> Answer
-    ensures { seen result ≡ with_stores_of table roomed.stores (told_of roomed.reply) }
+pub fn with_stores(mut table: Table, roomed: Result<Roomed, Report>) -> Answer
+    ensures { seen result ≡ stores_put table (stores_seen table.stores roomed) }
 {
-    let stores = roomed.stores;
-    table.stores = stores;
-    told(table, roomed.reply)
+    match roomed {
+        Ok(roomed) => {
+            table.stores = roomed.stores;
+            accepted(table, roomed.value)
+        }
+        Err(report) => refused(table, report),
+    }
 }
 
 // The table with the stacks and the free run that a call left.
-pub fn with_stacks(mut table: Table, piled: Piled) -> Answer
-    ensures { seen result ≡ with_stacks_of table piled.stacks piled.free (told_of piled.reply) }
+pub fn with_stacks(mut table: Table, piled: Result<Piled, Report>) -> Answer
+    ensures { seen result ≡ stacks_put table (stacks_seen table.stacks table.free piled) }
 {
-    let stacks = piled.stacks;
-    let free = piled.free;
-    table.stacks = stacks;
-    table.free = free;
-    told(table, piled.reply)
+    match piled {
+        Ok(piled) => {
+            table.stacks = piled.stacks;
+            table.free = piled.free;
+            accepted(table, piled.value)
+        }
+        Err(report) => refused(table, report),
+    }
 }

@@ -1,4 +1,5 @@
-// The calls that are lent areas: call 8, which changes the bytes of its block, and the run question, which changes none.
+// The calls that are lent areas: call 8, which changes the bytes of its block, and the run question, which changes none. Each asks soundness by a test: none
+// goes on with a `Result` alone, since call 8 has a check of the lent area and the bytes besides, and the run question gives a report and a part.
 ghost use Rattle.std.specs.Prelude.{◌≡◌, ◌+◌};
 ghost use Rattle.meaning.specs.Calls.{allocate};
 ghost use Rattle.meaning.specs.RunQuestion.{lent_of, part_bytes};
@@ -11,6 +12,7 @@ use names::{Report, ThreadId};
 
 impl Table {
     // Call 8. All n + 4 bytes of the block become 0; no other byte changes.
+    #[tactic(auto, using(lines::specs::Shape::unmapped, crate::specs::Ways::sized, crate::specs::Ways::unsound_answer, crate::specs::Lent::unsound_bytes, crate::specs::Lent::length_answer, crate::specs::Lent::length_bytes, crate::specs::Lent::allocate_called))]
     pub fn allocate(self, area: &mut [u8], thread: ThreadId, n: u32) -> Answer
         ensures told { seen result ≡ answer (called self area.old (allocate thread.0 n)) }
         ensures bytes { area.new ≡ (called self area.old (allocate thread.0 n)).bytes }
@@ -18,17 +20,21 @@ impl Table {
         if !self.is_sound() {
             return refused(self, Report::UnsoundTable);
         }
-        let areas = self.areas;
-        let home = areas.stores;
+        let home = self.areas.stores;
         if area.len() != home.length as usize {
             return refused(self, Report::BadArea);
         }
-        let roomed = store_calls::allocate(self.stores, self.threads, thread, n);
-        zeroing::zero_block(area, home.start, roomed.reply, n);
-        with_stores(self, roomed)
+        match store_calls::allocate(self.stores, self.threads, thread, n) {
+            Ok(roomed) => {
+                zeroing::zero_block(area, home.start, roomed.value, n);
+                with_stores(self, Ok(roomed))
+            }
+            Err(report) => refused(self, report),
+        }
     }
 
     // The report of the run question.
+    #[tactic(auto, using(lines::specs::Shape::unmapped, crate::specs::Ways::sized, crate::specs::Lent::report_unsound, crate::specs::Lent::report_sound))]
     pub fn run_report(self, stores: &[u8], stacks: &[u8], address: u32, n: u32) -> Report
         ensures { number_of result ≡ run_number self stores.now stacks.now address n }
     {

@@ -4,35 +4,27 @@ ghost use Rattle.meaning.specs.Calls.{make_stack, destroy_stack};
 ghost use Rattle.table.specs.Calls.{seen, called, answer};
 
 use crate::Table;
-use crate::answer::{Answer, refused, with_stacks};
-use names::{Report, StackId};
+use crate::answer::{Answer, with_stacks};
+use names::StackId;
 
 impl Table {
     // Call 12.
+    #[tactic(auto, using(lines::specs::Shape::unmapped, crate::specs::Ways::sized, crate::specs::Ways::unsound_answer, crate::specs::EachCall::make_stack_called))]
     pub fn make_stack(self, n: u32) -> Answer
         ensures { seen result ≡ answer (called self [] (make_stack n)) }
     {
-        if !self.is_sound() {
-            return refused(self, Report::UnsoundTable);
-        }
-        let areas = self.areas;
-        with_stacks(
-            self,
-            stack_calls::make_stack(self.stacks, areas.stacks, self.free, n),
-        )
+        let area = self.areas.stacks;
+        let call = |()| stack_calls::make_stack(self.stacks, area, self.free, n);
+        with_stacks(self, self.sound().and_then(call))
     }
 
     // Call 13.
+    #[tactic(auto, using(lines::specs::Shape::unmapped, crate::specs::Ways::sized, crate::specs::Ways::unsound_answer, crate::specs::EachCall::destroy_stack_called))]
     pub fn destroy_stack(self, stack: StackId) -> Answer
         ensures { seen result ≡ answer (called self [] (destroy_stack stack.0)) }
     {
-        if !self.is_sound() {
-            return refused(self, Report::UnsoundTable);
-        }
-        let areas = self.areas;
-        with_stacks(
-            self,
-            stack_calls::destroy_stack(self.stacks, areas.stacks, self.free, stack),
-        )
+        let area = self.areas.stacks;
+        let call = |()| stack_calls::destroy_stack(self.stacks, area, self.free, stack);
+        with_stacks(self, self.sound().and_then(call))
     }
 }

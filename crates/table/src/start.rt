@@ -6,20 +6,21 @@ ghost use Rattle.stores.specs.Stores.{written as stores_written};
 ghost use Rattle.table.specs.Calls.{seen, called, answer};
 ghost use Rattle.table.specs.Started.{root_alone, fresh_table};
 
-use crate::answer::{Answer, refused};
+use crate::answer::{Answer, accepted, refused};
 use crate::{Areas, Table};
+use lines::Lines;
 use names::{Area, Report, Store, StoreId};
 use stacks::Stacks;
 use stores::Stores;
 use threads::Threads;
 
 // The root alone, with the whole area and nothing used.
+#[tactic(auto, using(stores::specs::Stores::reading_written))]
 fn root_alone(area: Area) -> Stores
     ensures { result ≡ stores_written (root_alone area) }
 {
     let root = StoreId(area.start);
-    let none = Stores::new();
-    none.with_store(Store::new(root, area.length, root))
+    Stores::new().with(Store::new(root, area.length, root))
 }
 
 // One store with used 0, no threads, no stacks, all stack area free.
@@ -48,11 +49,6 @@ impl Table {
         if !areas::sound(stores, stacks) {
             return refused(self, Report::BadArea);
         }
-        let table = fresh(stores, stacks);
-        Answer {
-            table,
-            report: Report::Accepted,
-            value: stores.start,
-        }
+        accepted(fresh(stores, stacks), stores.start)
     }
 }

@@ -1,7 +1,7 @@
 -- Decimals and buffers by computation. Assumes nothing.
-use Rattle.std.specs.Prelude.{[], ◌∷◌, map, ◌≡◌, refl}
+use Rattle.std.specs.Prelude.{[], ◌∷◌, map, Some, None, ◌≡◌, refl}
 use Rattle.texts.specs.Decimal.{decimal}
-use Rattle.texts.specs.Buffer.{overwritten, placed, place_after}
+use Rattle.texts.specs.Buffer.{overwritten, placed, place_after, end_of}
 
 -- `0`, `10`, `4096` and the greatest number of 32 bits
 pub example-decimals
@@ -19,3 +19,7 @@ example-placed = refl
 pub example_places : map (λ at. place_after at (55 ∷ 10 ∷ []) (1 ∷ 2 ∷ 3 ∷ 4 ∷ [])) (1 ∷ 3 ∷ []) ≡ 3 ∷ 3 ∷ []
 unfolding place_after
 example_places = refl
+
+pub example_ends : map (λ at. end_of at (55 ∷ 10 ∷ []) (1 ∷ 2 ∷ 3 ∷ 4 ∷ [])) (1 ∷ 3 ∷ []) ≡ Some 3 ∷ None ∷ []
+unfolding end_of
+example_ends = refl

@@ -1,5 +1,5 @@
 -- The list of threads: how its lines read, how a list is written, and when it is clean. Assumes nothing.
-use Rattle.std.specs.Prelude.{Bool, true, not, ◌&&◌, List, ◌≡◌, refl, ℕ, leb, ltb, eqb, length}
+use Rattle.std.specs.Prelude.{Bool, true, ◌&&◌, List, ◌≡◌, refl, ℕ, leb, eqb, length}
 use Rattle.std.proofs.Common.{leb-true, eqb-true}
 use Rattle.lists.specs.Tests.{and_iff}
 use Rattle.lines.specs.Shape.{Shape, live, pad, blank, live_pad, written_back}
@@ -44,16 +44,6 @@ written ts = record { count = length ts; lines = pad thread_line ts }
 unfoldable pub clean : Threads → Bool
 clean s = leb s.count 32 && blank thread_line s.count s.lines
 
--- the thread has the identifier k, another, or a higher one
-abbrev pub is_thread : ℕ → Thread → Bool
-is_thread k t = eqb t.identifier k
-
-abbrev pub is_other : ℕ → Thread → Bool
-is_other k t = not (eqb t.identifier k)
-
-abbrev pub is_above : ℕ → Thread → Bool
-is_above k t = ltb k t.identifier
-
 -- a count and lines are a written list where they are that list's
 pub made : (n : ℕ) (ls : List Line) (ts : List Thread) → n ≡ length ts → ls ≡ pad thread_line ts → ◌≡◌ {A = Threads} (record { count = n; lines = ls }) (written ts)
 unfolding written
@@ -71,3 +61,13 @@ written_reading s e h =
     let b = (and_iff (leb s.count 32) _).0 h in
     let w = written_back thread_line s.count s.lines e (leb-true s.count 32 b.0) b.1 in
     λ i. record { count = w.0 i; lines = w.1 i }
+
+-- ---- the definitions, as every list of lines has them
+
+pub reading_is : (s : Threads) → reading s ≡ live thread_line s.count s.lines
+unfolding reading
+reading_is s = refl
+
+pub clean_is : (s : Threads) → clean s ≡ (leb s.count 32 && blank thread_line s.count s.lines)
+unfolding clean
+clean_is s = refl

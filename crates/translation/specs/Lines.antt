@@ -1,5 +1,5 @@
 -- A list of calls spelled one to a line comes to the records of those calls, one after the other. Assumes nothing.
-use Rattle.std.specs.Prelude.{true, List, [], ◌∷◌, ◌++◌, ◌≡◌, refl, ℕ, zero, suc, ◌+◌, ◌*◌, ◌≤◌, ◌<◌, length, take, drop, get_or}
+use Rattle.std.specs.Prelude.{true, List, [], ◌∷◌, ◌++◌, ◌≡◌, refl, ℕ, zero, suc, ◌+◌, ◌*◌, ◌≤◌, ◌<◌, length, take, drop, get_or, Ok}
 use Rattle.std.proofs.Common.{append-nil, append_assoc, ◌∙◌, ap₂, arith, length-append, take-append-drop, le-leb}
 use Rattle.lists.specs.Lists.{all}
 use Rattle.texts.specs.Record.{counts}
@@ -11,7 +11,6 @@ use Rattle.notation.specs.ReadBack.{is_word, read_back, read_end}
 use Rattle.record_bytes.specs.Records.{record_bytes}
 use Rattle.record_bytes.specs.Laws.{record_length_lem}
 use Rattle.translation.specs.Translation.{walk, translated}
-use Rattle.translation.specs.declared.Outcome.TheVariants.{Records}
 
 -- a call by its code and its arguments
 pub record Spelling : Type 0 where
@@ -33,7 +32,7 @@ lines (s ∷ ss) = spelled s.code s.args ++ (10 ∷ lines ss)
 
 -- the record of a call, 0 for the arguments that it lacks
 abbrev pub record_for : Spelling → List ℕ
-record_for s = record_bytes s.code (get_or s.args 0 0) (get_or s.args 1 0) (get_or s.args 2 0) (get_or s.args 3 0)
+record_for s = record_bytes s.code (get_or s.args 0 0 ∷ get_or s.args 1 0 ∷ get_or s.args 2 0 ∷ get_or s.args 3 0 ∷ [])
 
 abbrev pub records : List Spelling → List ℕ
 records [] = []
@@ -47,7 +46,7 @@ walk-lines
     → all is_blank blanks ≡ true
     → length ss < turns
     → end + length (records ss) ≤ length buffer
-    → walk turns (before ++ (blanks ++ lines ss)) (length before) end buffer ≡ record { outcome = Records (end + length (records ss)); records = overwritten end (records ss) buffer }
+    → walk turns (before ++ (blanks ++ lines ss)) (length before) end buffer ≡ record { outcome = Ok (end + length (records ss)); records = overwritten end (records ss) buffer }
 unfolding walk overwritten
 walk-lines ss before blanks zero end buffer k b t r = absurd (omega arith)
 walk-lines [] before blanks (suc turns) end buffer k b t r =
@@ -65,13 +64,13 @@ walk-lines (s ∷ ss) before blanks (suc turns) end buffer k b t r =
     let place : length before + length blanks + length sp ≡ length (before ++ (blanks ++ sp)) = simp length-append (omega arith) in
     let last : end + m + length (records ss) ≡ end + length (record_for s ++ records ss) = simp length-append (omega arith) in
     rw (e, le-leb (end + m) (length buffer) (omega arith))
-    (ap₂ (λ l n. walk turns l n (end + m) now) text place ∙ i ∙ ap₂ (λ n l. record { outcome = Records n; records = l }) last (overwritten_more end (record_for s) buffer (records ss) room))
+    (ap₂ (λ l n. walk turns l n (end + m) now) text place ∙ i ∙ ap₂ (λ n l. record { outcome = Ok n; records = l }) last (overwritten_more end (record_for s) buffer (records ss) room))
 
 records_length : (ss : List Spelling) → length (records ss) ≡ 19 * length ss
 records_length [] = refl
 records_length (s ∷ ss) =
     let i = records_length ss in
-    let l = record_length_lem s.code (get_or s.args 0 0) (get_or s.args 1 0) (get_or s.args 2 0) (get_or s.args 3 0) in
+    let l = record_length_lem s.code (get_or s.args 0 0 ∷ get_or s.args 1 0 ∷ get_or s.args 2 0 ∷ get_or s.args 3 0 ∷ []) refl in
     simp length-append (omega arith)
 
 -- as many calls as there is room for, one to a line, come to their records from the front of the buffer; what is behind them stays
@@ -79,7 +78,7 @@ pub lines-translated
     : (ss : List Spelling) (buffer : List ℕ)
     → AllKnown ss
     → 19 * length ss ≤ length buffer
-    → translated (lines ss) buffer ≡ record { outcome = Records (19 * length ss); records = records ss ++ drop (19 * length ss) buffer }
+    → translated (lines ss) buffer ≡ record { outcome = Ok (19 * length ss); records = records ss ++ drop (19 * length ss) buffer }
 unfolding translated overwritten
 lines-translated ss buffer k h =
     let n = records_length ss in

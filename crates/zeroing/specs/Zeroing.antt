@@ -1,6 +1,9 @@
--- The bytes of call 8, zeroed one by one from an offset on: one law for each way out of the loop. Assumes nothing.
-use Rattle.std.specs.Prelude.{[], ◌∷◌, ◌≡◌, refl, ℕ, zero, suc, ◌+◌, ◌-◌, ◌<◌, ◌≤◌, length, set}
-use Rattle.std.proofs.Common.{sym, ◌∙◌, ap, arith}
+-- The bytes of call 8: a part of the area, filled with zeros and put back, is the area with those bytes zeroed. Assumes nothing.
+use Rattle.std.specs.Prelude.{[], ◌∷◌, ◌≡◌, refl, ℕ, zero, suc, ◌-◌, ◌<◌, ◌≤◌, min, leb, length, replicate}
+use Rattle.std.proofs.Common.{inl, inr, sym, ap, arith}
+use borrow.Author.Tests.{leb-true, leb-false}
+use borrow.Rule.Slice.PartMut.{put_mid}
+use Rattle.lists.specs.Tests.{tested}
 use Rattle.meaning.specs.Model.{Bytes}
 use Rattle.meaning.specs.Changes.{zeroed}
 
@@ -9,42 +12,33 @@ zeroed_none o [] = refl
 zeroed_none zero (b ∷ bs) = refl
 zeroed_none (suc o) (b ∷ bs) = ap (λ l. b ∷ l) (zeroed_none o bs)
 
--- one more, at i, behind k that are zeroed
-more : (o k i : ℕ) (bs : Bytes) → i ≡ o + k → i < length bs → set (zeroed o k bs) i 0 ≡ zeroed o (suc k) bs
-more o k i [] e h = absurd (omega arith)
-more zero zero zero (b ∷ bs) e h = ap (λ l. 0 ∷ l) (sym (zeroed_none 0 bs))
-more zero zero (suc i) (b ∷ bs) e h = absurd (omega arith)
-more zero (suc k) zero (b ∷ bs) e h = absurd (omega arith)
-more zero (suc k) (suc i) (b ∷ bs) e h = ap (λ l. 0 ∷ l) (more zero k i bs (omega arith) (omega arith))
-more (suc o) k zero (b ∷ bs) e h = absurd (omega arith)
-more (suc o) k (suc i) (b ∷ bs) e h = ap (λ l. b ∷ l) (more o k i bs (omega arith) (omega arith))
-
 -- past the end there is nothing to zero
-past : (o k n : ℕ) (bs : Bytes) → length bs ≤ o + k → k ≤ n → zeroed o k bs ≡ zeroed o n bs
-past o k n [] h l = refl
-past zero zero n (b ∷ bs) h l = absurd (omega arith)
-past zero (suc k) zero (b ∷ bs) h l = absurd (omega arith)
-past zero (suc k) (suc n) (b ∷ bs) h l = ap (λ l. 0 ∷ l) (past zero k n bs (omega arith) (omega arith))
-past (suc o) k n (b ∷ bs) h l = ap (λ l. b ∷ l) (past o k n bs (omega arith) l)
+past : (o n : ℕ) (bs : Bytes) → length bs ≤ o → zeroed o n bs ≡ bs
+past o n [] h = refl
+past zero n (b ∷ bs) h = absurd (omega arith)
+past (suc o) n (b ∷ bs) h = ap (λ l. b ∷ l) (past o n bs (omega arith))
 
--- the bytes before i are zeroed from o on
-unfoldable pub zeroed_to : ℕ → ℕ → Bytes → Bytes
-zeroed_to o i bs = zeroed o (i - o) bs
+-- k bytes from o on are filled, where n are asked for and the list ends first, or not
+filled_start : (k n : ℕ) (bs : Bytes) → k ≡ min n (length bs) → put_mid 0 k bs (replicate k 0) ≡ zeroed 0 n bs
+filled_start zero zero bs e = sym (zeroed_none 0 bs)
+filled_start zero (suc n) [] e = refl
+filled_start zero (suc n) (b ∷ bs) e = absurd (omega arith)
+filled_start (suc k) n [] e = absurd (omega arith)
+filled_start (suc k) zero (b ∷ bs) e = absurd (omega arith)
+filled_start (suc k) (suc n) (b ∷ bs) e = ap (λ l. 0 ∷ l) (filled_start k n bs (omega arith))
 
-pub zeroed_start : (o : ℕ) (bs : Bytes) → bs ≡ zeroed_to o o bs
-unfolding zeroed_to
-zeroed_start o bs = let z : o - o ≡ 0 = omega arith in rw z (sym (zeroed_none o bs))
+filled : (o k n : ℕ) (bs : Bytes) → o < length bs → k ≡ min n (length bs - o) → put_mid o k bs (replicate k 0) ≡ zeroed o n bs
+filled o k n [] h e = absurd (omega arith)
+filled zero k n (b ∷ bs) h e = filled_start k n (b ∷ bs) (omega arith)
+filled (suc o) k n (b ∷ bs) h e = ap (λ l. b ∷ l) (filled o k n bs (omega arith) (omega arith))
 
-pub zeroed_more : (o i : ℕ) (bs : Bytes) → o ≤ i → i < length bs → set (zeroed_to o i bs) i 0 ≡ zeroed_to o (i + 1) bs
-unfolding zeroed_to
-zeroed_more o i bs l h =
-    let e : i + 1 - o ≡ suc (i - o) = omega arith in
-    more o (i - o) i bs (omega arith) h ∙ ap (λ k. zeroed o k bs) (sym e)
+-- the part from one offset up to another, as far as the list goes
+pub zeroed_part : (o t e : ℕ) (bs part : Bytes) → e ≡ min t (length bs) → o < e → part ≡ replicate (e - o) 0 → put_mid o (e - o) bs part ≡ zeroed o (t - o) bs
+zeroed_part o t e bs part q h p = rw p (filled o (e - o) (t - o) bs (omega arith) (omega arith))
 
-pub zeroed_past : (o i n : ℕ) (bs : Bytes) → o ≤ i → length bs ≤ i → i - o ≤ n - o → zeroed_to o i bs ≡ zeroed o (n - o) bs
-unfolding zeroed_to
-zeroed_past o i n bs l h k = past o (i - o) (n - o) bs (omega arith) k
-
-pub zeroed_end : (o i n : ℕ) (bs : Bytes) → o ≤ i → n ≤ i → i - o ≤ n - o → zeroed_to o i bs ≡ zeroed o (n - o) bs
-unfolding zeroed_to
-zeroed_end o i n bs l h k = let e : i - o ≡ n - o = omega arith in rw e
+-- no byte of the list lies between the two
+pub zeroed_off : (o t e : ℕ) (bs : Bytes) → e ≡ min t (length bs) → e ≤ o → bs ≡ zeroed o (t - o) bs
+zeroed_off o t e bs q h = elim (tested (leb t o)) [
+  | inl l ↦ let z : t - o ≡ 0 = omega (arith, leb-true t o l) in rw z (sym (zeroed_none o bs))
+  | inr l ↦ sym (past o (t - o) bs (omega (arith, leb-false t o l)))
+]

@@ -4,4 +4,4 @@ use Rattle.bench.proofs.play.Given as goal
 
 -- the place rises with each line, up to the end of 3,000 records
 abbrev pub decreases-loop-stores : goal.decreases-loop-stores
-decreases-loop-stores l = last_place - l.place
+decreases-loop-stores l = last_place - l.from.place

@@ -1,12 +1,13 @@
 -- `store_rules::lies_in` meets its contract. Assumes nothing.
-use borrow.Author.Tests.{le-leb, lt-leb}
+use Rattle.std.proofs.Common.{le-leb}
+use Rattle.std.proofs.lemmas.Bool.{lt-leb}
 use Rattle.meaning.specs.Model.{◌inside◌}
 use Rattle.store_rules.proofs.lies_in.Goals as goal
 
-pub returns-then-k-from : goal.returns-then-k-from
+pub returns-then-from-c : goal.returns-then-from-c
 unfolding ◌inside◌
-returns-then-k-from c = rw (lt-leb _ _ c.if-k-from.true)
+returns-then-from-c c = rw (le-leb _ _ c.if-from-c.true, c.end_of.ensures)
 
-pub returns : goal.returns
+pub returns-else-from-c : goal.returns-else-from-c
 unfolding ◌inside◌
-returns c = rw (le-leb _ _ c.if-k-from.false, c.end_of.ensures)
+returns-else-from-c c = rw (lt-leb _ _ c.if-from-c.false)

@@ -4,8 +4,8 @@ use Rattle.board.specs.Layout.{stack_at, lines_none, lines_more}
 use Rattle.std.proofs.Common.{rules}
 use Rattle.board.proofs.layout.stack_words.Goals as goal
 
-pub loop-i-init : goal.loop-i-init
-loop-i-init c = lines_none stack_at _ _ _ _ refl
+pub loop-line-init : goal.loop-line-init
+loop-line-init c = lines_none stack_at _ _ _ _ refl
 
-pub loop-i-preserved : goal.loop-i-preserved
-loop-i-preserved c = lines_more stack_at _ _ _ _ _ _ _ c.loop-i.invariant (search rules) c.new.ensures
+pub loop-line-preserved : goal.loop-line-preserved
+loop-line-preserved c = lines_more stack_at _ _ _ _ _ _ _ c.loop-line.invariant (search rules) c.new.ensures

@@ -1,9 +1,5 @@
-use Prim.Native.Nat.{◌-◌}
 use Rattle.board.specs.Layout.{stack_at, LinesTo}
 use Rattle.board.proofs.layout.stack_words.Given as goal
 
-abbrev pub invariant-loop-i : goal.invariant-loop-i
-invariant-loop-i l = LinesTo stack_at 2 330 32 l.lines l.i l.word
-
-abbrev pub decreases-loop-i : goal.decreases-loop-i
-decreases-loop-i l = 32 - l.i
+abbrev pub invariant-loop-line : goal.invariant-loop-line
+invariant-loop-line l = LinesTo stack_at 2 330 32 l.line-items l.line-index l.word

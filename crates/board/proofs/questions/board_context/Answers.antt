@@ -2,11 +2,12 @@
 use mathlib.Core.Path.{refl}
 use Rattle.lines.specs.Shape.{unmapped}
 use Rattle.table.specs.Table.{Sized}
+use Rattle.table.specs.Ways.{sized}
 use Rattle.board.specs.Board.{question_told}
 use Rattle.std.proofs.Common.{rules}
 use Rattle.board.proofs.questions.board_context.Goals as goal
 
 pub returns : goal.returns
 returns c =
-    let long : Sized c.args.table = record { stores = search (rules, unmapped); threads = search (rules, unmapped); stacks = search (rules, unmapped) } in
-    question_told _ long _ refl c.context.result c.reply_of.result c.reply_of.ensures c.context.ensures
+    let long : Sized c.args.table = sized _ (search (rules, unmapped)) (search (rules, unmapped)) (search (rules, unmapped)) in
+    question_told _ long _ refl c.context.result c.from.result c.from.ensures c.context.ensures

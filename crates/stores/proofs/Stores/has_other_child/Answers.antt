@@ -1,16 +1,17 @@
--- `Stores::has_other_child` meets its contract. Assumes nothing.
-use mathlib.Core.Path.{◌≡◌, ◌∙◌, ap}
-use lib.ListN.{length}
-use Rattle.lists.specs.Lists.{any, rest}
-use Rattle.lines.specs.Shape.{unmapped}
-use Rattle.lines.specs.Lookup.{lines_read}
-use Rattle.stores.specs.Stores.{store_line, reading, is_other_child}
-use Rattle.std.proofs.Common.{rules}
+-- `Stores::has_other_child` meets its contract: of the lines but the first some one is. Assumes nothing.
+use Rattle.std.proofs.Common.{rules, tests, sym, ◌∙◌, ap, drop}
+use Rattle.std.proofs.lemmas.List.{drop-map}
+use Rattle.std.proofs.lemmas.Iterator.{YieldsList-from_slice}
+use Rattle.std.proofs.lemmas.Iterator.Adapters.{YieldsList-from_skip}
+use Rattle.std.proofs.lemmas.Iterator.Search.{any_from_yields_List}
+use Rattle.lists.specs.Lists.{any}
+use Rattle.lines.specs.Shape.{rest_drop}
+use Rattle.lines.proofs.Listed.{any_line}
+use Rattle.stores.specs.Stores.{view, store_line, reading, is_other_child}
 use Rattle.stores.proofs.Stores.has_other_child.Goals as goal
 
 pub returns : goal.returns
-unfolding reading
 returns c =
-    let long : length c.args.self.lines ≡ 64 = search (rules, unmapped) in
-    let a = c.args in
-    c.other_child.ensures ∙ ap (λ l. any (is_other_child a.parent.0 a.store.0) (rest l)) (lines_read store_line _ _ _ long c.in_use-n.ensures)
+    let p = is_other_child c.args.parent.0 c.args.store.0 in
+    any_from_yields_List (λ a. p (view a)) _ _ _ c.any.ensures.ran (YieldsList-from_skip 1 (YieldsList-from_slice c.listed.result.now (cc)) (cc)) (λ x b q h. search (rules, tests))
+    ∙ any_line store_line p _ ∙ ap (any p) (sym (drop-map view 1 c.listed.result.now) ∙ ap (drop 1) c.listed.ensures.reads ∙ sym (rest_drop (reading c.args.self.now)))

@@ -1,0 +1,3 @@
+pub mod Listed
+pub mod Searched
+pub mod Found
