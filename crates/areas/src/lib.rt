@@ -64,8 +64,15 @@ pub fn touches_no_end(run: Area, stack: Area) -> bool
     run.length != 0 && end(stack) != u64::from(run.start) && end(run) != u64::from(stack.start)
 }
 
-// The run without n bytes at its low end, written at the area's end where nothing is left; none where its start would pass 32 bits.
-pub fn shortened(area: Area, run: Area, n: u32) -> Option<Area>
+// The run without n bytes at its low end, written at the area's end where nothing is left; the same run where its start would pass 32 bits.
+pub fn shortened(area: Area, run: Area, n: u32) -> Area
+    ensures { result ≡ (if fits32 (shortened (run_of area) (run_of run) n).start then area_of (shortened (run_of area) (run_of run) n) else run) }
+{
+    checked_shortened(area, run, n).unwrap_or(run)
+}
+
+// The run shortened so; none where its start would pass 32 bits.
+pub fn checked_shortened(area: Area, run: Area, n: u32) -> Option<Area>
     ensures { result ≡ (if fits32 (shortened (run_of area) (run_of run) n).start then Some (area_of (shortened (run_of area) (run_of run) n)) else None) }
 {
     let start = if n == run.length {
@@ -77,8 +84,15 @@ pub fn shortened(area: Area, run: Area, n: u32) -> Option<Area>
     Some(Area::new(start, run.length.saturating_sub(n)))
 }
 
-// The run with the bytes of a stack that touches it; none where their lengths together pass 32 bits.
-pub fn joined(run: Area, stack: Area) -> Option<Area>
+// The run with the bytes of a stack that touches it; the same run where their lengths together pass 32 bits.
+pub fn joined(run: Area, stack: Area) -> Area
+    ensures { result ≡ (if fits32 (run.length + stack.length) then area_of (joined (run_of run) (run_of stack)) else run) }
+{
+    checked_joined(run, stack).unwrap_or(run)
+}
+
+// The run joined so; none where their lengths together pass 32 bits.
+pub fn checked_joined(run: Area, stack: Area) -> Option<Area>
     ensures { result ≡ (if fits32 (run.length + stack.length) then Some (area_of (joined (run_of run) (run_of stack))) else None) }
 {
     let length = run.length.checked_add(stack.length)?;

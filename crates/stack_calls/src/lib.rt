@@ -31,7 +31,7 @@ pub fn make_stack(stacks: Stacks, area: Area, free: Area, n: u32) -> Result<Pile
         return Err(Report::TableFull);
     }
     let total = taken as u32;
-    let left = areas::shortened(area, free, total).ok_or(Report::UnsoundTable)?;
+    let left = areas::checked_shortened(area, free, total).ok_or(Report::UnsoundTable)?;
     Ok(Piled {
         stacks: stacks.with(Stack::new(StackId(free.start), total)),
         free: left,
@@ -58,7 +58,7 @@ pub fn destroy_stack(
     if areas::touches_no_end(free, bytes) {
         return Err(Report::Fragmentation);
     }
-    let joined = areas::joined(free, bytes).ok_or(Report::UnsoundTable)?;
+    let joined = areas::checked_joined(free, bytes).ok_or(Report::UnsoundTable)?;
     Ok(Piled {
         stacks: stacks.without(stack),
         free: joined,
