@@ -1,5 +1,5 @@
 -- A search by halves for a key: what it finds has the key on any list, and on a rising list it finds what a search from the front finds. Assumes nothing.
-use Rattle.std.specs.Prelude.{true, ◌≡◌, refl, ℕ, zero, suc, ◌≤◌, ◌<◌, eqb, length, get_or}
+use Rattle.std.specs.Prelude.{true, ◌≡◌, refl, ℕ, zero, suc, ◌≤◌, ◌<◌, ltb, eqb, length, get_or}
 use mathlib.Core.List.Memᴰ.{head as here}
 use mathlib.Core.List.Memᴰ.{tail as there}
 use mathlib.Core.List.{List, [], ◌∷◌}
@@ -63,6 +63,10 @@ module _ {A B : Type 0} (σ : Shape A B) (key : B → ℕ) (n : ℕ) (ls : List 
 
   rises : rising key l ≡ true → Rising key l
   rises = (rising_iff key l).0
+
+  -- on a rising list the place that it finds tells whether the list has the key
+  pub halves_has : (r : ℕ) → Halved key l k r → rising key l ≡ true → ltb r n ≡ has key l k
+  halves_has r h u = ap (λ j. ltb j n) (h.right u) ∙ ap (ltb where_k) (sym long) ∙ sym (has_place key l k)
 
   -- where k stands, its key is k, and the keys before it are lower, those behind it higher
   stands : where_k < length l → key (get_or l where_k d) ≡ k
