@@ -1,5 +1,5 @@
 -- The lines that are read, as they stand in an array, and a list written line by line. Assumes nothing.
-use Rattle.std.specs.Prelude.{Bool, true, false, List, [], ◌∷◌, ◌++◌, ◌||◌, ◌&&◌, map, ◌≡◌, refl, ℕ, zero, suc, ◌+◌, ◌<◌, ◌≤◌, min, take, drop, set, get_or, ltb, eqb, length, option_map, unwrap_or, cond, Some, None}
+use Rattle.std.specs.Prelude.{Bool, true, false, List, [], ◌∷◌, ◌++◌, ◌||◌, ◌&&◌, map, ◌≡◌, refl, ℕ, zero, suc, ◌+◌, ◌<◌, ◌≤◌, min, take, drop, set, get_or, ltb, eqb, length, option_map, unwrap_or, cond, if◌then◌else◌, Some, None}
 use Rattle.std.specs.List.{list_any, list_all, find, position_or_len, IsAllAdjacentAnswer}
 use Rattle.std.proofs.Common.{sym, ◌∙◌, ap, arith, add-one, append_assoc, take-suc, length-append, ltb-false}
 use mathlib.Core.List.{map-append}
@@ -121,13 +121,23 @@ module _ {S A B : Type 0} (σ : Shape A B) (count_of : S → ℕ) (lines_of : S 
     taken : take (i + 1) ms ≡ take i ms ++ σ.view a ∷ []
     taken = rw (add-one, take-suc ms i (σ.view a) within, here_reads)
 
-    pub kept_pushed : (p : B → Bool) → p (σ.view a) ≡ true → count_of s < σ.limit → t ≡ made (count_of s + 1) (set (lines_of s) (count_of s) a)
+    kept_pushed : (p : B → Bool) → p (σ.view a) ≡ true → count_of s < σ.limit → t ≡ made (count_of s + 1) (set (lines_of s) (count_of s) a)
         → s ≡ written (keep p (take i ms)) → t ≡ written (keep p (take (i + 1) ms))
     kept_pushed p e room q w =
         pushed s t a _ room q w ∙ ap written (ap (λ m. keep p (take i ms) ++ m ∷ []) (sym here_reads) ∙ sym (keep_in p ms i (σ.view a) within (rw here_reads e)))
 
-    pub kept_passed : (p : B → Bool) → p (σ.view a) ≡ false → s ≡ written (keep p (take i ms)) → s ≡ written (keep p (take (i + 1) ms))
+    kept_passed : (p : B → Bool) → p (σ.view a) ≡ false → s ≡ written (keep p (take i ms)) → s ≡ written (keep p (take (i + 1) ms))
     kept_passed p e w = w ∙ ap written (sym (keep_out p ms i (σ.view a) within (rw here_reads e)))
+
+    -- a line that is put in where b, the answer of its test, is true; Asked p says that p is that test
+    pub kept_step : (b : Bool) (Asked : (B → Bool) → Type 0) → ((p : B → Bool) → Asked p → b ≡ p (σ.view a)) → count_of s < σ.limit
+        → t ≡ (if b then made (count_of s + 1) (set (lines_of s) (count_of s) a) else s)
+        → (count_of s ≤ i) × ((p : B → Bool) → Asked p → s ≡ written (keep p (take i ms)))
+        → (count_of t ≤ i + 1) × ((p : B → Bool) → Asked p → t ≡ written (keep p (take (i + 1) ms)))
+    kept_step true Asked tests room q w =
+        (omega (arith, w.0, pushed_count s t a q), λ p h. kept_pushed p (sym (tests p h)) room q (w.1 p h))
+    kept_step false Asked tests room q w =
+        (omega (arith, w.0, ap count_of q), λ p h. q ∙ kept_passed p (sym (tests p h)) (w.1 p h))
 
     pub each_pushed : (f : B → B) (b : A) → σ.view b ≡ f (σ.view a) → count_of s < σ.limit → t ≡ made (count_of s + 1) (set (lines_of s) (count_of s) b)
         → s ≡ written (map f (take i ms)) → t ≡ written (map f (take (i + 1) ms))

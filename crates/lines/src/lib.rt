@@ -129,8 +129,8 @@ pub trait Lines: Copy {
     final fn rises(&self) -> bool
         ensures { result ≡ rising name (reading self.now) }
     {
-        self.listed()
-            .is_sorted_by(|a, b| Self::key(a) < Self::key(b))
+        let listed = self.listed();
+        listed.is_sorted_by(|a, b| Self::key(a) < Self::key(b))
     }
 
     // The count is at most the number of lines, and lines past it hold zeros.

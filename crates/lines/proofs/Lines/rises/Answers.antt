@@ -8,4 +8,4 @@ use Rattle.lines.proofs.Lines.rises.Goals as goal
 pub returns : goal.returns
 returns g c =
     let l = g.Self.Lines in
-    rising_line l.shape l.name _ c.listed.result.now (c.is_sorted_by.ensures.cases (λ a b. ltb (l.name (l.shape.view a)) (l.name (l.shape.view b))) (answers_always _ _ _ (λ f a r h e. search (rules, tests)))) ∙ ap (rising l.name) c.listed.ensures.reads
+    rising_line l.shape l.name _ _ (c.is_sorted_by.ensures.cases (λ a b. ltb (l.name (l.shape.view a)) (l.name (l.shape.view b))) (answers_always _ _ _ (λ f a r h e. search (rules, tests)))) ∙ ap (rising l.name) (search rules)
