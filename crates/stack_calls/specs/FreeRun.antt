@@ -1,4 +1,4 @@
--- What calls 12 and 13 need to know of the new free run. Assumes nothing.
+-- The free run that calls 12 and 13 leave: by its length it tells whether it was cut, and a joined run fits where its length does. Assumes nothing.
 use Rattle.std.specs.Prelude.{Bool, true, false, ◌≡◌, refl, ℕ, ◌+◌, ◌-◌, ◌<◌, ◌≤◌, min, eqb, if◌then◌else◌}
 use Rattle.std.proofs.Common.{◌∙◌, ap, arith, lt-ltb, eqb-true}
 use Rattle.lists.specs.Tests.{false_of}
@@ -8,7 +8,7 @@ use Rattle.meaning.specs.Changes.{shortened, joined}
 use Rattle.meaning.specs.Reading.{run_of, area_of, fits32}
 use Rattle.stack_calls.specs.StackCalls.{run_fits}
 
--- the free run without t bytes, where its start fits; else as it was
+-- the free run without t bytes, where its start fits; else as it was: what `areas::shortened` gives
 abbrev pub cut : Area → Area → ℕ → Area
 cut area free t = if fits32 (shortened (run_of area) (run_of free) t).start then area_of (shortened (run_of area) (run_of free) t) else free
 
