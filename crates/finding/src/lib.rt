@@ -2,7 +2,8 @@
 // address is the store to go on from. In a sound table a child's line follows its parent's, so one pass over the lines comes to the answer.
 #![tactic(auto)]
 
-ghost use Rattle.std.specs.Prelude.{◌≡◌, ◌<◌, length, map};
+ghost use Rattle.std.specs.Prelude.{◌≡◌, ◌≢◌, ◌<◌, IfErr, length, map};
+ghost use Rattle.names.specs.Numbers.{number_of};
 ghost use Rattle.meaning.specs.Model.{◌holds◌, whole};
 ghost use Rattle.stores.specs.Stores.{view, reading};
 ghost use Rattle.finding.specs.Descent.{seen, leads, descend, descent};
@@ -57,7 +58,8 @@ fn descend(lines: &[Store], root: StoreId, address: u32) -> Found
 // Call 7.
 #[tactic(auto, using(crate::specs::Steps::find_inside, crate::specs::Steps::find_none))]
 pub fn find(stores: Stores, address: u32) -> Result<Found, Report>
-    ensures { seen result ≡ descent (reading stores) address }
+    ensures told { seen result ≡ descent (reading stores) address }
+    ensures refused { IfErr result (λ r. number_of r ≢ 0) }
 {
     match stores.listed().split_first() {
         Some((root, lines)) if holds(*root, address) => Ok(descend(lines, root.id, address)),
