@@ -1,6 +1,6 @@
 -- The bytes of call 8: a part of the area, filled with zeros and put back, is the area with those bytes zeroed. Assumes nothing.
-use Rattle.std.specs.Prelude.{[], ◌∷◌, ◌≡◌, refl, ℕ, zero, suc, ◌-◌, ◌<◌, ◌≤◌, min, leb, length, replicate}
-use Rattle.std.proofs.Common.{inl, inr, sym, ap, arith}
+use Rattle.std.specs.Prelude.{[], ◌∷◌, ◌≡◌, refl, ℕ, zero, suc, ◌+◌, ◌-◌, ◌<◌, ◌≤◌, min, leb, length, replicate}
+use Rattle.std.proofs.Common.{inl, inr, sym, ◌∙◌, ap, arith}
 use borrow.Author.Tests.{leb-true, leb-false}
 use borrow.Rule.Slice.PartMut.{put_mid}
 use Rattle.lists.specs.Tests.{tested}
@@ -13,10 +13,12 @@ zeroed_none zero (b ∷ bs) = refl
 zeroed_none (suc o) (b ∷ bs) = ap (λ l. b ∷ l) (zeroed_none o bs)
 
 -- past the end there is nothing to zero
-past : (o n : ℕ) (bs : Bytes) → length bs ≤ o → zeroed o n bs ≡ bs
-past o n [] h = refl
-past zero n (b ∷ bs) h = absurd (omega arith)
-past (suc o) n (b ∷ bs) h = ap (λ l. b ∷ l) (past o n bs (omega arith))
+past : (o k n : ℕ) (bs : Bytes) → length bs ≤ o + k → k ≤ n → zeroed o k bs ≡ zeroed o n bs
+past o k n [] h l = refl
+past zero zero n (b ∷ bs) h l = absurd (omega arith)
+past zero (suc k) zero (b ∷ bs) h l = absurd (omega arith)
+past zero (suc k) (suc n) (b ∷ bs) h l = ap (λ l. 0 ∷ l) (past zero k n bs (omega arith) (omega arith))
+past (suc o) k n (b ∷ bs) h l = ap (λ l. b ∷ l) (past o k n bs (omega arith) l)
 
 -- k bytes from o on are filled, where n are asked for and the list ends first, or not
 filled_start : (k n : ℕ) (bs : Bytes) → k ≡ min n (length bs) → put_mid 0 k bs (replicate k 0) ≡ zeroed 0 n bs
@@ -40,5 +42,5 @@ zeroed_part o t e bs part q h p = rw p (filled o (e - o) (t - o) bs (omega arith
 pub zeroed_off : (o t e : ℕ) (bs : Bytes) → e ≡ min t (length bs) → e ≤ o → bs ≡ zeroed o (t - o) bs
 zeroed_off o t e bs q h = elim (tested (leb t o)) [
   | inl l ↦ let z : t - o ≡ 0 = omega (arith, leb-true t o l) in rw z (sym (zeroed_none o bs))
-  | inr l ↦ sym (past o (t - o) bs (omega (arith, leb-false t o l)))
+  | inr l ↦ sym (zeroed_none o bs) ∙ past o 0 (t - o) bs (omega (arith, leb-false t o l)) (omega arith)
 ]
