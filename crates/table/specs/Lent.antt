@@ -1,9 +1,11 @@
 -- What is lent to the table. Call 8: the room taken on the lists and the block zeroed in the lent area are the call's answer and its bytes. The run
 -- question: on a sound table it is asked of the areas alone. Assumes nothing.
-use Rattle.std.specs.Prelude.{Bool, true, false, List, [], ◌≡◌, ℕ, ◌+◌, ◌-◌, eqb, length, if◌then◌else◌}
+use Rattle.std.specs.Prelude.{Bool, true, false, List, [], ◌≡◌, ◌≢◌, ℕ, ◌+◌, ◌-◌, Result, Ok, Err, IsOkAnd, IfErr, MatchResult, eqb, length, if◌then◌else◌}
 use Rattle.std.proofs.Common.{inl, inr, sym, ◌∙◌, ap, arith}
 use borrow.Author.Tests.{eqb-true, eq-eqb, ne_eqb}
 use Rattle.lists.specs.Tests.{tested}
+use Rattle.names.specs.declared.report.Report.{Report}
+use Rattle.names.specs.Numbers.{number_of}
 use Rattle.names.specs.Overhead.{allocation_overhead, block_taken}
 use Rattle.meaning.specs.Model.{Model, Bytes, free_part}
 use Rattle.meaning.specs.Changes.{zeroed}
@@ -12,7 +14,9 @@ use Rattle.meaning.specs.Reading.{run_of}
 use Rattle.meaning.specs.RunQuestion.{area_checks, run_report, run_part}
 use Rattle.meaning.specs.Calls.{Call, code, allocate, accepted, decide, checks, change, row}
 use Rattle.stores.specs.declared.Stores.{Stores}
+use Rattle.store_calls.specs.declared.room.Roomed.{Roomed}
 use Rattle.store_calls.specs.StoreCalls as store_calls
+use Rattle.zeroing.specs.Zeroing.{zeroed_as_told}
 use Rattle.table.specs.declared.Table.{Table}
 use Rattle.table.specs.Table.{reading, sound_table, Sized}
 use Rattle.runs.specs.Runs.{part}
@@ -84,6 +88,14 @@ module _ (t : Table) (n : Sized t) (h : sound_table t ≡ true) (bs : Bytes) (x 
     block_refused ss r q f =
         let kept : bs ≡ block_zeroed t (record { stores = ss; told = record { report = r; value = 0 } }) k bs = rw (ne_eqb r 0 f) in
         kept ∙ ap (λ p. block_zeroed t p k bs) q ∙ allocate_bytes
+
+    -- the same, by the result of that call and what is told of it: its value, or its report
+    pub block_told : (r : Result Roomed Report) (v : Result ℕ Report) → store_calls.seen t.stores r ≡ room → IfErr r (λ e. number_of e ≢ 0)
+        → MatchResult r (λ y. IsOkAnd v (λ n. n ≡ y.value)) (λ e. v ≡ Err e) → zeroed_as_told v t.areas.stores.start k bs ≡ (called t bs (allocate x k)).bytes
+    unfolding zeroed_as_told
+    block_told (Ok y) (Ok v) q f e = rw e (block_accepted y.stores y.value q)
+    block_told (Ok y) (Err d) q f e = absurd e
+    block_told (Err d) v q f e = rw e (block_refused t.stores (number_of d) q f)
 
 -- ---- the run question
 

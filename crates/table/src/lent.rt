@@ -24,13 +24,9 @@ impl Table {
         if area.len() != home.length as usize {
             return refused(self, Report::BadArea);
         }
-        match store_calls::allocate(self.stores, self.threads, thread, n) {
-            Ok(roomed) => {
-                zeroing::zero_block(area, home.start, roomed.value, n);
-                with_stores(self, Ok(roomed))
-            }
-            Err(report) => refused(self, report),
-        }
+        let roomed = store_calls::allocate(self.stores, self.threads, thread, n);
+        zeroing::zero_block(area, home.start, roomed.map(|r| r.value), n);
+        with_stores(self, roomed)
     }
 
     // The report of the run question.

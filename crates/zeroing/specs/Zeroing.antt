@@ -1,11 +1,18 @@
 -- The bytes of call 8: a part of the area, filled with zeros and put back, is the area with those bytes zeroed. Assumes nothing.
-use Rattle.std.specs.Prelude.{[], ◌∷◌, ◌≡◌, refl, ℕ, zero, suc, ◌+◌, ◌-◌, ◌<◌, ◌≤◌, min, leb, length, replicate}
+use Rattle.std.specs.Prelude.{[], ◌∷◌, ◌≡◌, refl, ℕ, zero, suc, ◌+◌, ◌-◌, ◌<◌, ◌≤◌, Result, Ok, Err, min, leb, length, replicate}
 use Rattle.std.proofs.Common.{inl, inr, sym, ◌∙◌, ap, arith}
 use borrow.Author.Tests.{leb-true, leb-false}
 use borrow.Rule.Slice.PartMut.{put_mid}
 use Rattle.lists.specs.Tests.{tested}
+use Rattle.names.specs.declared.report.Report.{Report}
+use Rattle.names.specs.Overhead.{allocation_overhead, block_taken}
 use Rattle.meaning.specs.Model.{Bytes}
 use Rattle.meaning.specs.Changes.{zeroed}
+
+-- the bytes of the area that begins at start, after a call of n bytes that told this: the block of an accepted call becomes 0, a refused call leaves them all
+unfoldable pub zeroed_as_told : Result ℕ Report → ℕ → ℕ → Bytes → Bytes
+zeroed_as_told (Ok address) start n bs = zeroed (address - allocation_overhead - start) (block_taken n) bs
+zeroed_as_told (Err r) start n bs = bs
 
 pub zeroed_none : (o : ℕ) (bs : Bytes) → zeroed o 0 bs ≡ bs
 zeroed_none o [] = refl

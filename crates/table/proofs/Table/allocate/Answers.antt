@@ -3,17 +3,12 @@ use Rattle.std.proofs.Common.{rules, true, ◌≡◌, sym, ◌∙◌}
 use Rattle.lines.specs.Shape.{unmapped}
 use Rattle.table.specs.Table.{sound_table, Sized}
 use Rattle.table.specs.Ways.{sized}
-use Rattle.table.specs.Lent.{block_accepted, block_refused}
+use Rattle.table.specs.Lent.{block_told}
 use Rattle.table.proofs.Table.allocate.Goals as goal
 
-pub returns-in-Ok-clause-bytes : goal.returns-in-Ok-clause-bytes
-returns-in-Ok-clause-bytes c =
+pub returns-clause-bytes : goal.returns-clause-bytes
+returns-clause-bytes c =
     let long : Sized c.args.self = sized _ (search (rules, unmapped)) (search (rules, unmapped)) (search (rules, unmapped)) in
     let sound : sound_table c.args.self ≡ true = sym c.is_sound.ensures ∙ c.if-not-is_sound.false in
-    c.zero_block.ensures ∙ block_accepted _ long sound _ _ _ c.if-area-home.false _ _ c.in-Ok.ensures.told
-
-pub returns-in-Err-clause-bytes : goal.returns-in-Err-clause-bytes
-returns-in-Err-clause-bytes c =
-    let long : Sized c.args.self = sized _ (search (rules, unmapped)) (search (rules, unmapped)) (search (rules, unmapped)) in
-    let sound : sound_table c.args.self ≡ true = sym c.is_sound.ensures ∙ c.if-not-is_sound.false in
-    block_refused _ long sound _ _ _ c.if-area-home.false _ _ c.in-Err.ensures.told (search rules)
+    let r = c.allocate-roomed.ensures in
+    c.zero_block.ensures ∙ block_told _ long sound _ _ _ c.if-area-home.false _ _ r.told r.refused (search rules)
