@@ -1,10 +1,11 @@
--- What the code hands back of a call, and what call 8 is lent. Assumes nothing.
-use Rattle.std.specs.Prelude.{◌≡◌, ◌++◌, ℕ, ◌≤◌, min, leb, length, take, drop}
+-- What the code hands back of what stands at a place, and what call 8 is lent. Assumes nothing.
+use Rattle.std.specs.Prelude.{Some, None, ◌≡◌, ◌++◌, ℕ, ◌≤◌, min, leb, length, take, drop}
 use Rattle.std.proofs.Common.{sym, ◌∙◌, ap, inl, inr, arith, drop_of_length-le, take_all, leb-true, leb-false}
 use Rattle.lists.specs.Tests.{tested}
 use Rattle.texts.specs.BufferLaws.{part_length}
 use Rattle.meaning.specs.Model.{Bytes}
-use Rattle.meaning.specs.Calls.{Call, code, allocate}
+use Rattle.meaning.specs.Calls.{code, allocate}
+use Rattle.call_list.specs.Records.{Entry, call, stop}
 use Rattle.table.specs.declared.Table.{Table}
 use Rattle.table.specs.Calls.{Seen, called, answer}
 use Rattle.bench_calls.specs.declared.Stepped.{Stepped}
@@ -12,15 +13,21 @@ use Rattle.bench_calls.specs.Bench.{AfterCall, bench_called}
 
 -- an answer of the manager as the bench's, with the call's code in front
 abbrev pub stepped_to : ℕ → Seen → Stepped
-stepped_to k a = record { table = a.table; code = k; report = a.report; value = a.value }
+stepped_to k a = record { table = a.table; printout = Some (record { code = k; report = a.report; value = a.value }) }
 
 -- the report, the value and the table after a call
 abbrev pub seen_of : AfterCall → Seen
 seen_of o = record { table = o.table; report = o.report; value = o.value }
 
--- a call made on the bench, with its code in front
-abbrev pub stepped : Table → Bytes → Call → Stepped
-stepped t buffer c = stepped_to (code c) (seen_of (bench_called t buffer c))
+-- what stands at a place: a call is made, with its code in front, and at anything else the program stops
+abbrev pub stepped : Table → Bytes → Entry → Stepped
+stepped t buffer (call c) = stepped_to (code c) (seen_of (bench_called t buffer c))
+stepped t buffer stop = record { table = t; printout = None }
+
+-- the store buffer after it
+abbrev pub stores_after : Table → Bytes → Entry → Bytes
+stores_after t buffer (call c) = (bench_called t buffer c).stores
+stores_after t buffer stop = buffer
 
 -- ---- what call 8 is lent
 

@@ -2,12 +2,12 @@
 #![tactic(auto)]
 
 ghost use Rattle.std.specs.Prelude.{◌≡◌};
-ghost use Rattle.call_list.specs.Decoded.{call_made};
+ghost use Rattle.call_list.specs.Decoded.{entry_of};
 ghost use Rattle.meaning.specs.Calls.{allocate};
 ghost use Rattle.meaning.specs.Reading.{run_of};
 ghost use Rattle.table.specs.Calls.{seen, answer};
 ghost use Rattle.bench_calls.specs.Bench.{bench_start, bench_called};
-ghost use Rattle.bench_calls.specs.Steps.{stepped_to, seen_of, stepped};
+ghost use Rattle.bench_calls.specs.Steps.{stepped_to, seen_of, stepped, stores_after};
 
 use call_list::Record;
 use names::{Area, Report, StackId, Store, StoreId, ThreadId};
@@ -16,13 +16,19 @@ use table::{Answer, Table, refused};
 // What is lent of stores, and of stacks, at most.
 const MOST: u32 = 4096;
 
-// What a call gives: the table after it, and what is printed of it.
+// What is printed of a call.
 #[derive(Clone, Copy)]
-pub struct Stepped {
-    pub table: Table,
+pub struct Printout {
     pub code: u32,
     pub report: u32,
     pub value: u32,
+}
+
+// The table after what stands at a place, and what is printed of it: none where the program stops at it.
+#[derive(Clone, Copy)]
+pub struct Stepped {
+    pub table: Table,
+    pub printout: Option<Printout>,
 }
 
 // An answer of the manager, with the call's code.
@@ -31,9 +37,11 @@ fn told(code: u32, answer: Answer) -> Stepped
 {
     Stepped {
         table: answer.table,
-        code,
-        report: answer.report.number(),
-        value: answer.value,
+        printout: Some(Printout {
+            code,
+            report: answer.report.number(),
+            value: answer.value,
+        }),
     }
 }
 
@@ -61,12 +69,18 @@ fn allocated(table: Table, stores: &mut [u8], thread: ThreadId, n: u32) -> Answe
     table.allocate(&mut stores[..end], thread, n)
 }
 
-// A call of the list, made on the table.
+// What stands at a place of the list: a call is made on the table, and at anything else nothing changes.
 #[tactic(auto, unfolding(crate::specs::Bench::bench_called))]
-pub fn step(table: Table, stores: &mut [u8], call: Record) -> Stepped
-    ensures told { result ≡ stepped table stores.old (call_made call) }
-    ensures bytes { stores.new ≡ (bench_called table stores.old (call_made call)).stores }
+pub fn step(table: Table, stores: &mut [u8], found: Option<Record>) -> Stepped
+    ensures told { result ≡ stepped table stores.old (entry_of found) }
+    ensures bytes { stores.new ≡ stores_after table stores.old (entry_of found) }
 {
+    let Some(call) = found else {
+        return Stepped {
+            table,
+            printout: None,
+        };
+    };
     match call {
         Record::Start(a, n, b, k) => told(0, start(table, Area::new(a, n), Area::new(b, k))),
         Record::Root => told(1, table.root()),

@@ -52,12 +52,12 @@ pub fn next(list: &[u8], from: Progress, stores: &mut [u8; 4096], line: &mut [u8
         return last(put_stop(line, LIST as u32));
     }
     let taken = read_record(list, from.place);
-    let Some(call) = taken.found else {
+    let done = step(from.table, stores, taken.found);
+    let Some(printed) = done.printout else {
         return last(put_stop(line, from.place as u32));
     };
-    let done = step(from.table, stores, call);
     Line {
-        length: put_answer(line, done.code, done.report, done.value),
+        length: put_answer(line, printed.code, printed.report, printed.value),
         onward: Some(Progress {
             table: done.table,
             place: taken.next,
