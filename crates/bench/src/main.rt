@@ -6,6 +6,7 @@ ghost use Rattle.io.specs.Counts.{IsPrefixLen};
 
 use bench_run::Progress;
 use std::io::{Error, ErrorKind, Print, Read};
+use std::ops::ControlFlow;
 use std::rt::HostRuntime;
 use table::Table;
 
@@ -53,10 +54,10 @@ fn play(rt: &HostRuntime, list: &[u8]) {
         if !print(rt, &line[..next.length]) {
             return;
         }
-        let Some(onward) = next.onward else {
-            return;
-        };
-        from = onward;
+        match next.onward {
+            ControlFlow::Continue(onward) => from = onward,
+            ControlFlow::Break(_) => return,
+        }
     }
 }
 

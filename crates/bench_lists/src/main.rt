@@ -4,6 +4,7 @@
 
 use bench_run::Progress;
 use std::io::Print;
+use std::ops::ControlFlow;
 use std::rt::HostRuntime;
 use table::Table;
 use texts::{COUNTS, RECORD_LENGTH};
@@ -37,18 +38,22 @@ fn play(rt: &HostRuntime, list: &[u8], shown: Shown) {
     loop {
         let next = bench_run::next(list, from, &mut stores, &mut line);
         let text = &line[..next.length];
-        let Some(onward) = next.onward else {
-            if shown == Shown::Last {
-                let lines = from.place / RECORD_LENGTH;
-                let _ = println!(rt; "{lines} lines");
+        match next.onward {
+            ControlFlow::Continue(onward) => {
+                if shown == Shown::All {
+                    print(rt, text);
+                }
+                from = onward;
             }
-            print(rt, text);
-            return;
-        };
-        if shown == Shown::All {
-            print(rt, text);
+            ControlFlow::Break(last) => {
+                if shown == Shown::Last {
+                    let lines = last.place / RECORD_LENGTH;
+                    let _ = println!(rt; "{lines} lines");
+                }
+                print(rt, text);
+                return;
+            }
         }
-        from = onward;
     }
 }
 

@@ -1,5 +1,6 @@
 -- The run line by line, as the code makes it. The number of records left is in the place: 3,000 records take 57,000 bytes. Assumes nothing.
-use Rattle.std.specs.Prelude.{Bool, true, false, Option, Some, None, List, [], ◌++◌, ◌≡◌, refl, ℕ, zero, suc, ◌+◌, ◌-◌, ◌*◌, ◌^◌, ◌<◌, ◌≤◌, leb, if◌then◌else◌}
+use Rattle.std.specs.Prelude.{Bool, true, false, Option, Some, List, [], ◌++◌, ◌≡◌, refl, ℕ, zero, suc, ◌+◌, ◌-◌, ◌*◌, ◌^◌, ◌<◌, ◌≤◌, leb, if◌then◌else◌}
+use Rattle.std.specs.declared.ops.ControlFlow.TheVariants.{Break, Continue}
 use Rattle.std.proofs.Common.{append-nil, inl, inr, sym, ◌∙◌, ap, arith}
 use Rattle.std.proofs.Math.ListN.{length}
 use borrow.Author.Tests.{le-leb, lt-leb, leb-true, leb-false}
@@ -95,9 +96,13 @@ call_next list place c h = elim (tested (leb (place + record_length) (length lis
 
 -- ---- the code's line
 
--- the text of a line stands in the line buffer; the code tells how long it is, and how far the run then is where the line does not end it
+-- how far the run is after a line
+abbrev pub progress_of : Printed → Progress
+progress_of l = record { table = l.table; place = l.place }
+
+-- the text of a line stands in the line buffer; the code tells how long it is, how far the run then is, and whether it ends there
 abbrev pub line_told : Printed → Line
-line_told l = record { length = length l.text; onward = if l.ends then None else Some (record { table = l.table; place = l.place }) }
+line_told l = record { length = length l.text; onward = if l.ends then Break (progress_of l) else Continue (progress_of l) }
 
 -- a line of 40 bytes holds every text of numbers of 32 bits
 module _ (buffer : List ℕ) (h : length buffer ≡ 40) where
@@ -140,14 +145,14 @@ goes_on list place t buffer h = elim (tested (used_up list place)) [
 ]
 
 -- so the bytes that are left to take fall
-pub place_rises : (list : List ℕ) (place : ℕ) (t : Table) (buffer : Bytes) (r : Line) (p : Progress) → r ≡ line_told (line_at list place t buffer) → r.onward ≡ Some p
+pub place_rises : (list : List ℕ) (place : ℕ) (t : Table) (buffer : Bytes) (r : Line) (p : Progress) → r ≡ line_told (line_at list place t buffer) → r.onward ≡ Continue p
     → last_place - p.place < last_place - place
 place_rises list place t buffer r p e h = elim (tested (line_at list place t buffer).ends) [
-  | inl k ↦ let n : Some p ≡ None = sym h ∙ ap (λ x. x.onward) e ∙ rw k in cc
+  | inl k ↦ let n : Continue p ≡ Break (progress_of (line_at list place t buffer)) = sym h ∙ ap (λ x. x.onward) e ∙ rw k in cc
   | inr k ↦
       let g = goes_on list place t buffer k in
-      let n : Some p ≡ Some (record { table = (line_at list place t buffer).table; place = (line_at list place t buffer).place }) = sym h ∙ ap (λ x. x.onward) e ∙ rw k in
-      let q : p ≡ record { table = (line_at list place t buffer).table; place = (line_at list place t buffer).place } = cc in
+      let n : Continue p ≡ Continue (progress_of (line_at list place t buffer)) = sym h ∙ ap (λ x. x.onward) e ∙ rw k in
+      let q : p ≡ progress_of (line_at list place t buffer) = cc in
       let m = ap (λ x. x.place) q ∙ g.1 in
       omega (arith, g.0)
 ]

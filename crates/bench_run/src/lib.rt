@@ -2,6 +2,7 @@
 #![tactic(auto)]
 
 ghost use Rattle.std.specs.Prelude.{◌≡◌, ◌≤◌, length};
+ghost use Rattle.std.specs.declared.ops.ControlFlow.TheVariants.{Break};
 ghost use Rattle.answer_text.specs.Text.{answer_text, stop_text};
 ghost use Rattle.texts.specs.Buffer.{overwritten};
 ghost use Rattle.bench_calls.specs.Bench.{zero_stores};
@@ -9,6 +10,7 @@ ghost use Rattle.bench_run.specs.Lines.{line_told, line_at};
 
 use bench_calls::step;
 use list_reader::read_record;
+use std::ops::ControlFlow;
 use table::Table;
 
 // The bytes of 3,000 records.
@@ -21,12 +23,12 @@ pub struct Progress {
     pub place: usize,
 }
 
-// A line of the run: how long its text is, and how far the run then is, or none where it ends.
+// A line of the run: how long its text is, and how far the run then is: it goes on from there, or ends there.
 // A slice would be lent from the line buffer, and then no clause could say what the whole of it holds: so the length is told.
 #[derive(Clone, Copy)]
 pub struct Line {
     pub length: usize,
-    pub onward: Option<Progress>,
+    pub onward: ControlFlow<Progress, Progress>,
 }
 
 // The store buffer before the first call.
@@ -46,32 +48,32 @@ pub fn next(list: &[u8], from: Progress, stores: &mut [u8; 4096], line: &mut [u8
     ensures fits { result.length ≤ 40 }
 {
     if list.len() <= from.place {
-        return last(0);
+        return ended(from, 0);
     }
     if LIST <= from.place {
-        return last(put_stop(line, LIST as u32));
+        return ended(from, put_stop(line, LIST as u32));
     }
     let taken = read_record(list, from.place);
     let done = step(from.table, stores, taken.found);
     let Some(printed) = done.printout else {
-        return last(put_stop(line, from.place as u32));
+        return ended(from, put_stop(line, from.place as u32));
     };
     Line {
         length: put_answer(line, printed.code, printed.report, printed.value),
-        onward: Some(Progress {
+        onward: ControlFlow::Continue(Progress {
             table: done.table,
             place: taken.next,
         }),
     }
 }
 
-// The last line.
-fn last(length: usize) -> Line
-    ensures { result ≡ record { length = length; onward = None } }
+// The last line: the table and the place stay.
+fn ended(from: Progress, length: usize) -> Line
+    ensures { result ≡ record { length = length; onward = Break from } }
 {
     Line {
         length,
-        onward: None,
+        onward: ControlFlow::Break(from),
     }
 }
 

@@ -3,7 +3,7 @@ use Rattle.bench_run.specs.Lines.{place_rises}
 use Rattle.bench_lists.proofs.play.Goals as goal
 
 pub loop-onward-smaller : goal.loop-onward-smaller
-loop-onward-smaller c = place_rises _ _ _ _ _ _ c.next-next.ensures.told c.in-Some.is
+loop-onward-smaller c = place_rises _ _ _ _ _ _ c.next-next.ensures.told c.in-Continue.is
 
-pub loop-onward-smaller-then-eq-2 : goal.loop-onward-smaller-then-eq-2
-loop-onward-smaller-then-eq-2 c = place_rises _ _ _ _ _ _ c.next-next.ensures.told c.in-Some.is
+pub loop-onward-smaller-then-eq : goal.loop-onward-smaller-then-eq
+loop-onward-smaller-then-eq c = place_rises _ _ _ _ _ _ c.next-next.ensures.told c.in-Continue.is
