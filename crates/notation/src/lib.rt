@@ -2,7 +2,7 @@
 // Text and place stay two parameters: of a cursor that moves, each contract would have to say too that its text stays, and where it then stands.
 #![tactic(auto)]
 
-ghost use Rattle.std.specs.Prelude.{◌≡◌, ◌≤◌, min, Some, drop, length};
+ghost use Rattle.std.specs.Prelude.{◌≡◌, ◌≤◌, min, Some, drop, length, take_while};
 ghost use Rattle.std.specs.List.{prefix_len};
 ghost use Rattle.texts.specs.Decimal.{is_digit, value};
 ghost use Rattle.notation.specs.Numbers.{number_at};
@@ -37,6 +37,9 @@ pub struct Call {
     pub numbers: [u32; 4],
     pub next: usize,
 }
+
+// The first number that has no place in a record.
+const ABOVE: u64 = 4294967296;
 
 const LAST_CODE: u32 = 15;
 
@@ -78,7 +81,7 @@ fn blank_count(text: &[u8]) -> usize
 fn is_blank(b: u8) -> bool
     ensures { result ≡ is_blank b }
 {
-    matches!(b, b' ' | b'\t' | b'\n' | b'\r')
+    b == b' ' || b == b'\t' || b == b'\n' || b == b'\r'
 }
 
 // The call that begins at a place.
@@ -145,9 +148,10 @@ fn closed(text: &[u8], at: usize) -> Result<usize, Fault>
 fn after_byte(text: &[u8], at: usize, b: u8) -> Result<usize, Fault>
     ensures { result ≡ after_byte text.now at b }
 {
-    match text.get(at) {
-        Some(&found) if found == b => Ok(at + 1),
-        _ => Err(Fault { place: at }),
+    if text.get(at).is_some_and(|found| *found == b) {
+        Ok(at + 1)
+    } else {
+        Err(Fault { place: at })
     }
 }
 
@@ -164,31 +168,28 @@ fn ends(text: &[u8], at: usize) -> bool
 fn number_at(text: &[u8], at: usize) -> Result<(u32, usize), Fault>
     ensures { result ≡ number_at text.now at }
 {
-    let rest = rest_at(text, at);
-    let count = digit_count(rest);
+    let (value, count) = digits(rest_at(text, at));
     if count == 0 {
         return Err(Fault { place: at });
     }
-    let number = u32::try_from(value(&rest[..count])).map_err(|_| Fault { place: at })?;
+    let number = u32::try_from(value).map_err(|_| Fault { place: at })?;
     Ok((number, at + count))
 }
 
-// How many digits a text begins with.
-fn digit_count(text: &[u8]) -> usize
-    ensures count { result ≡ prefix_len is_digit text.now }
-    ensures within { result ≤ length text.now }
+// The value of the digits that a text begins with, or `ABOVE` where that is less, and how many they are.
+fn digits(text: &[u8]) -> (u64, usize)
+    ensures value { result.0 ≡ min (value (take_while is_digit text.now)) 4294967296 }
+    ensures count { result.1 ≡ length (take_while is_digit text.now) }
+    ensures within { result.1 ≤ length text.now }
 {
-    text.iter().take_while(|b| b.is_ascii_digit()).count()
-}
-
-// The value of some digits, or the greatest number of 64 bits where that is less.
-fn value(digits: &[u8]) -> u64
-    ensures { result ≡ min (value digits.now) 18446744073709551615 }
-{
-    digits.iter().fold(
-        0u64,
-        |n, b| n
-            .saturating_mul(10)
-            .saturating_add(u64::from(b.saturating_sub(b'0'))),
-    )
+    let mut value: u64 = 0;
+    let mut count: usize = 0;
+    for b in text {
+        if !b.is_ascii_digit() {
+            break;
+        }
+        value = (10 * value + u64::from(b - b'0')).min(ABOVE);
+        count += 1;
+    }
+    (value, count)
 }
