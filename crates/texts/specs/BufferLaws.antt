@@ -1,16 +1,17 @@
 -- Bytes written one after the other are the same bytes written at once; and a part of a buffer that bytes were copied into, put back in its place.
 -- Assumes nothing.
 use mathlib.Core.List.{List, [], ◌∷◌, ◌++◌, append_assoc}
-use Rattle.std.specs.Prelude.{◌≡◌, refl, set, get_or}
+use Rattle.std.specs.Prelude.{◌≡◌, refl, set, get_or, unwrap_or}
 use Rattle.std.proofs.Math.Path.{sym, ap}
-use Rattle.std.proofs.Common.{◌∙◌, arith, length-drop, take-append-drop, take_at, drop_at, drop-cons, le-leb}
+use Rattle.std.proofs.Common.{◌∙◌, inl, inr, arith, length-drop, take-append-drop, take_at, drop_at, drop-cons, le-leb}
 use Prim.Native.Nat.{ℕ, suc, ◌+◌, ◌≤◌, ◌<◌}
 use Rattle.std.proofs.Math.ListN.{length, take, drop, length-append, length-take}
 use Rattle.std.proofs.Math.Seq.{drop-drop, set_at, append_snoc, take-length}
 use Rattle.std.proofs.lemmas.List.{drop-append-le}
 use Rattle.std.proofs.lemmas.Bool.{lt-leb}
 use borrow.Rule.Slice.PartMut.{put_mid, mid_of}
-use Rattle.texts.specs.Buffer.{overwritten, placed, place_after, Put}
+use Rattle.texts.specs.Buffer.{overwritten, placed, place_after, Put, fits, end_of}
+use Rattle.lists.specs.Tests.{tested}
 
 module _ (at : ℕ) (s buffer : List ℕ) where
   front : at ≤ length buffer → length (take at buffer ++ s) ≡ at + length s
@@ -81,3 +82,11 @@ put_whole at s buffer b p h u = rw (le-leb (at + length s) (length buffer) h) u
 pub put_nothing : (at : ℕ) (s buffer : List ℕ) → length buffer < at + length s → (buffer ≡ placed at s buffer) × (at ≡ place_after at s buffer)
 unfolding placed place_after
 put_nothing at s buffer h = rw (lt-leb (at + length s) (length buffer) h) (refl, refl)
+
+-- the place after bytes is where they end, or the same place where they do not fit
+pub place_after_end : (at : ℕ) (s buffer : List ℕ) → place_after at s buffer ≡ unwrap_or (end_of at s buffer) at
+unfolding place_after end_of
+place_after_end at s buffer = elim (tested (fits at s buffer)) [
+  | inl h ↦ rw h
+  | inr h ↦ rw h
+]
