@@ -99,7 +99,7 @@ impl Table {
         if !stack_rules::run_sound(&self.stacks, stack_area, self.free) {
             return 7;
         }
-        if !all_clean(self.stores, self.threads, self.stacks) {
+        if !all_clean(&self.stores, &self.threads, &self.stacks) {
             return 8;
         }
         0
@@ -107,8 +107,8 @@ impl Table {
 }
 
 // Rule 8: the lists are clean.
-fn all_clean(stores: Stores, threads: Threads, stacks: Stacks) -> bool
-    ensures { result ≡ all_clean stores threads stacks }
+fn all_clean(stores: &Stores, threads: &Threads, stacks: &Stacks) -> bool
+    ensures { result ≡ all_clean stores.now threads.now stacks.now }
 {
     stores.is_clean() && threads.is_clean() && stacks.is_clean()
 }

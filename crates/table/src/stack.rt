@@ -4,7 +4,7 @@ ghost use Rattle.meaning.specs.Calls.{make_stack, destroy_stack};
 ghost use Rattle.table.specs.Calls.{seen, called, answer};
 
 use crate::Table;
-use crate::answer::{Answer, with_stacks};
+use crate::answer::{Answer, refused, with_stacks};
 use names::StackId;
 
 impl Table {
@@ -14,8 +14,13 @@ impl Table {
         ensures { seen result ≡ answer (called self [] (make_stack n)) }
     {
         let area = self.areas.stacks;
-        let call = |()| stack_calls::make_stack(self.stacks, area, self.free, n);
-        with_stacks(self, self.sound().and_then(call))
+        match self.sound() {
+            Ok(()) => with_stacks(
+                self,
+                stack_calls::make_stack(self.stacks, area, self.free, n),
+            ),
+            Err(report) => refused(self, report),
+        }
     }
 
     // Call 13.
@@ -24,7 +29,12 @@ impl Table {
         ensures { seen result ≡ answer (called self [] (destroy_stack stack.0)) }
     {
         let area = self.areas.stacks;
-        let call = |()| stack_calls::destroy_stack(self.stacks, area, self.free, stack);
-        with_stacks(self, self.sound().and_then(call))
+        match self.sound() {
+            Ok(()) => with_stacks(
+                self,
+                stack_calls::destroy_stack(self.stacks, area, self.free, stack),
+            ),
+            Err(report) => refused(self, report),
+        }
     }
 }

@@ -4,7 +4,7 @@ ghost use Rattle.meaning.specs.Calls.{root, total_of, used_of, free_of, make_sto
 ghost use Rattle.table.specs.Calls.{seen, called, answer};
 
 use crate::Table;
-use crate::answer::{Answer, told, with_stores};
+use crate::answer::{Answer, refused, told, with_stores};
 use names::{StoreId, ThreadId};
 
 impl Table {
@@ -49,8 +49,13 @@ impl Table {
     pub fn make_store(self, thread: ThreadId, n: u32) -> Answer
         ensures { seen result ≡ answer (called self [] (make_store thread.0 n)) }
     {
-        let call = |()| store_calls::make_store(self.stores, self.threads, thread, n);
-        with_stores(self, self.sound().and_then(call))
+        match self.sound() {
+            Ok(()) => with_stores(
+                self,
+                store_calls::make_store(self.stores, self.threads, thread, n),
+            ),
+            Err(report) => refused(self, report),
+        }
     }
 
     // Call 10.
@@ -58,8 +63,10 @@ impl Table {
     pub fn clear(self, thread: ThreadId) -> Answer
         ensures { seen result ≡ answer (called self [] (clear thread.0)) }
     {
-        let call = |()| store_calls::clear(self.stores, self.threads, thread);
-        with_stores(self, self.sound().and_then(call))
+        match self.sound() {
+            Ok(()) => with_stores(self, store_calls::clear(self.stores, self.threads, thread)),
+            Err(report) => refused(self, report),
+        }
     }
 
     // Call 11.
@@ -67,7 +74,9 @@ impl Table {
     pub fn resize(self, store: StoreId, n: u32) -> Answer
         ensures { seen result ≡ answer (called self [] (resize store.0 n)) }
     {
-        let call = |()| store_calls::resize(self.stores, store, n);
-        with_stores(self, self.sound().and_then(call))
+        match self.sound() {
+            Ok(()) => with_stores(self, store_calls::resize(self.stores, store, n)),
+            Err(report) => refused(self, report),
+        }
     }
 }

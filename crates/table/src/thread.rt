@@ -4,7 +4,7 @@ ghost use Rattle.meaning.specs.Calls.{context_of, set_context, add_thread, remov
 ghost use Rattle.table.specs.Calls.{seen, called, answer};
 
 use crate::Table;
-use crate::answer::{Answer, told, with_threads};
+use crate::answer::{Answer, refused, told, with_threads};
 use names::{StoreId, ThreadId};
 
 impl Table {
@@ -22,8 +22,13 @@ impl Table {
     pub fn set_context(self, thread: ThreadId, store: StoreId) -> Answer
         ensures { seen result ≡ answer (called self [] (set_context thread.0 store.0)) }
     {
-        let call = |()| thread_calls::set_context(self.threads, self.stores, thread, store);
-        with_threads(self, self.sound().and_then(call))
+        match self.sound() {
+            Ok(()) => with_threads(
+                self,
+                thread_calls::set_context(self.threads, self.stores, thread, store),
+            ),
+            Err(report) => refused(self, report),
+        }
     }
 
     // Call 14.
@@ -31,8 +36,13 @@ impl Table {
     pub fn add_thread(self, thread: ThreadId, context: StoreId) -> Answer
         ensures { seen result ≡ answer (called self [] (add_thread thread.0 context.0)) }
     {
-        let call = |()| thread_calls::add_thread(self.threads, self.stores, thread, context);
-        with_threads(self, self.sound().and_then(call))
+        match self.sound() {
+            Ok(()) => with_threads(
+                self,
+                thread_calls::add_thread(self.threads, self.stores, thread, context),
+            ),
+            Err(report) => refused(self, report),
+        }
     }
 
     // Call 15.
