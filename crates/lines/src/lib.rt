@@ -95,15 +95,28 @@ pub trait Lines: Copy {
     }
 
     // A place of that identifier, found by halves; the number of lines where that finds none. On a rising list it is the place of the first. It is no Option:
-    // the pass of rule 4 takes it as an index, and its proof shows that it is one.
+    // the pass of rule 4 takes it as an index, and its proof shows that it is one. It ends where it finds one; the library's search goes through all halves, and
+    // took more than twice the time where stores are nested deep.
     final fn half_place(&self, id: Self::Id) -> usize
         ensures { Halved name (reading self.now) (number id) result }
     {
         let key = Self::number(id);
         let listed = self.listed();
-        listed
-            .binary_search_by_key(&key, |line| Self::key(line))
-            .unwrap_or(listed.len())
+        let mut low = 0;
+        let mut high = listed.len();
+        while low < high {
+            let middle = low + (high - low) / 2;
+            let found = Self::key(&listed[middle]);
+            if found == key {
+                return middle;
+            }
+            if found < key {
+                low = middle + 1;
+            } else {
+                high = middle;
+            }
+        }
+        listed.len()
     }
 
     // Some line has that identifier: where a search by halves finds nothing each line is asked.
