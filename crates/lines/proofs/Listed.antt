@@ -121,12 +121,12 @@ module _ {S A B : Type 0} (σ : Shape A B) (count_of : S → ℕ) (lines_of : S 
     taken : take (i + 1) ms ≡ take i ms ++ σ.view a ∷ []
     taken = rw (add-one, take-suc ms i (σ.view a) within, here_reads)
 
-    kept_pushed : (p : B → Bool) → p (σ.view a) ≡ true → count_of s < σ.limit → t ≡ made (count_of s + 1) (set (lines_of s) (count_of s) a)
+    pub kept_pushed : (p : B → Bool) → p (σ.view a) ≡ true → count_of s < σ.limit → t ≡ made (count_of s + 1) (set (lines_of s) (count_of s) a)
         → s ≡ written (keep p (take i ms)) → t ≡ written (keep p (take (i + 1) ms))
     kept_pushed p e room q w =
         pushed s t a _ room q w ∙ ap written (ap (λ m. keep p (take i ms) ++ m ∷ []) (sym here_reads) ∙ sym (keep_in p ms i (σ.view a) within (rw here_reads e)))
 
-    kept_passed : (p : B → Bool) → p (σ.view a) ≡ false → s ≡ written (keep p (take i ms)) → s ≡ written (keep p (take (i + 1) ms))
+    pub kept_passed : (p : B → Bool) → p (σ.view a) ≡ false → s ≡ written (keep p (take i ms)) → s ≡ written (keep p (take (i + 1) ms))
     kept_passed p e w = w ∙ ap written (sym (keep_out p ms i (σ.view a) within (rw here_reads e)))
 
     -- a line that is put in where b, the answer of its test, is true; Asked p says that p is that test

@@ -29,7 +29,7 @@ module _ {A : Type 0} (key : A → ℕ) where
     | inr e ↦ let g = rw e at h in rw e (place_key l k d (omega arith))
   ]
 
-  rising_at : (l : List A) → Rising key l → (i j : ℕ) (d : A) → i < j → j < length l → key (get_or l i d) < key (get_or l j d)
+  pub rising_at : (l : List A) → Rising key l → (i j : ℕ) (d : A) → i < j → j < length l → key (get_or l i d) < key (get_or l j d)
   rising_at [] r i j d h k = absurd (omega arith)
   rising_at (x ∷ l) r i zero d h k = absurd (omega arith)
   rising_at (x ∷ l) r zero (suc j) d h k = r.0 (get_or l j d) (at_in l j d (omega arith))
